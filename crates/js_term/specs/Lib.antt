@@ -1,0 +1,6 @@
+pub mod Term
+pub mod Scope
+pub mod Lexeme
+pub mod Node
+pub mod Spells
+pub mod Form
