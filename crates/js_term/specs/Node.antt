@@ -1,6 +1,6 @@
 -- The node of each kind by its parts, in the order in which they stand in a text.
-use Rattle.std.specs.Prelude.{List, [], ◌∷◌, ◌++◌, Option, None, Some, Bool, true, false, codes}
-use Rattle.js_term.specs.Term.{Text, Kind, Term, absent, list, node, Terms, none, more, one, two, flag}
+use Rattle.std.specs.Prelude.{List, [], ◌∷◌, Bool, true, false, codes}
+use Rattle.js_term.specs.Term.{Text, Kind, Term, absent, list, node, Terms, none, more, one, two}
 
 abbrev pub identifier_of : Text → Term
 identifier_of x = node Kind.Identifier (x ∷ []) none

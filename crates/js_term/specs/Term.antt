@@ -9,7 +9,7 @@ Text = List ℕ
 abbrev pub is_text : Text → Text → Bool
 is_text = pointwise nat_eq
 
--- The kinds of node, by their names in ESTree and oxc; the last three are what a reference stands for.
+-- The kinds of node, by their names in ESTree and oxc; the last four are what a reference stands for.
 pub data Kind : Type 0 where
   Program : Kind
   Directive : Kind
@@ -41,6 +41,7 @@ pub data Kind : Type 0 where
   ParenthesizedExpression : Kind
   Namespace : Kind
   Local : Kind
+  Arguments : Kind
   Global : Kind
 
 mutual
