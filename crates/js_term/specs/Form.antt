@@ -197,12 +197,6 @@ abbrev pub one_text : (Text → Bool) → List Text → Bool
 one_text test (x ∷ []) = test x
 one_text test texts = false
 
--- flags, none of which is set
-abbrev pub no_flags : List Text → Bool
-no_flags [] = true
-no_flags ([] ∷ texts) = no_flags texts
-no_flags texts = false
-
 abbrev pub is_binding_name : Text → Bool
 is_binding_name x = is_word x && not (is_reserved x)
 
@@ -210,12 +204,13 @@ abbrev pub is_off : Text → Bool
 is_off [] = true
 is_off x = false
 
+-- two flags, neither of them set
 abbrev pub two_flags : List Text → Bool
 two_flags ([] ∷ [] ∷ []) = true
 two_flags texts = false
 
 abbrev pub is_property : List Text → Bool
-is_property (form ∷ mark ∷ flags) = is_text form (codes "init") && (is_one_of mark ([] ∷ codes "method" ∷ []) && no_flags flags)
+is_property (form ∷ mark ∷ flags) = is_text form (codes "init") && (is_one_of mark ([] ∷ codes "method" ∷ []) && two_flags flags)
 is_property texts = false
 
 abbrev pub is_truth : Text → Bool

@@ -1,0 +1,6 @@
+pub mod Strip
+pub mod Lexemes
+pub mod Fit
+pub mod Blanks
+pub mod Leads
+pub mod Standing

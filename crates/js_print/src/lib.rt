@@ -1,0 +1,4 @@
+//! The text of a module.
+#![tactic(auto)]
+
+pub fn nothing() {}
