@@ -19,7 +19,7 @@ or_cases true b h = inl refl
 or_cases false b h = inr h
 
 -- a test that no blank passes
-blank_fails : (test : ℕ → Bool) → test 32 ≡ false → test 9 ≡ false → test 10 ≡ false → test 13 ≡ false → (c : ℕ) → test c ≡ true → is_blank c ≡ false
+pub blank_fails : (test : ℕ → Bool) → test 32 ≡ false → test 9 ≡ false → test 10 ≡ false → test 13 ≡ false → (c : ℕ) → test c ≡ true → is_blank c ≡ false
 blank_fails test p q r s c h = false_by (is_blank c) (λ b. elim (or_cases (nat_eq c 32 || nat_eq c 9) (is_line_end c) b)
     [ inl x ↦ elim (or_cases (nat_eq c 32) (nat_eq c 9) x) [ inl e ↦ at 32 p e | inr e ↦ at 9 q e ]
     | inr x ↦ elim (or_cases (nat_eq c 10) (nat_eq c 13) x) [ inl e ↦ at 10 r e | inr e ↦ at 13 s e ] ])
@@ -87,7 +87,7 @@ not_true : (b : Bool) → not b ≡ true → b ≡ false
 not_true true h = sym h
 not_true false h = refl
 
-tens_digit : (c : ℕ) → between 49 57 c ≡ true → is_digit c ≡ true
+pub tens_digit : (c : ℕ) → between 49 57 c ≡ true → is_digit c ≡ true
 tens_digit c h =
     let low : 49 ≤ c = ltb-false c 49 (not_true (nat_lt c 49) (and_left (not (nat_lt c 49)) (not (nat_lt 57 c)) h)) in
     let lower : 48 ≤ c = omega arith in

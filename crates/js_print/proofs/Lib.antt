@@ -4,3 +4,5 @@ pub mod Fit
 pub mod Blanks
 pub mod Leads
 pub mod Standing
+pub mod Expressions
+pub mod Statements

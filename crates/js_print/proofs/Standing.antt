@@ -5,7 +5,7 @@ use Rattle.std.proofs.lemmas.Bool.{ltb-false}
 use Rattle.std.specs.Prelude.{codes}
 use Rattle.std.specs.Cmp.Lexicographic.{bytes_decides}
 use Rattle.js_term.specs.Term.{Text, is_text, Kind, Term, absent, list, node, Terms, none, more, one, two, all}
-use Rattle.js_term.specs.Lexeme.{whole, Token, Lexeme, word, number, string, sign, is_word, is_decimal, is_reserved, is_one_of, not_next, goes_on, goes_on_number, opens_otherwise}
+use Rattle.js_term.specs.Lexeme.{whole, Token, Lexeme, word, number, string, sign, is_word, is_decimal, is_reserved, is_one_of, not_next, goes_on, goes_on_number, opens_otherwise, is_blank, is_line_end, same_line}
 use Rattle.js_term.specs.Node.{identifier_of, binding_of, name_of, string_of, number_of, truth, boolean_of, call_of, member_of, sequence_of, await_of, array_of, object_of, property_of, method_property_of, named, parameters_of, body_of, function_of, const_of, return_of, statement_of, specifier_of, import_declaration_of, export_declaration_of, program_of, parenthesized_of}
 use Rattle.js_term.specs.Spells.{level, is_string_literal, joined, Stands, identifier, boolean, numeric, string_literal, parenthesized, call, member, await_expression, array, object, Listed, last, and, Group, no_items, some_items, Statement, Declaration}
 use Rattle.js_term.specs.Form.{Sort, Place, fits, is_binding_name, one_text, is_off, is_truth, no_texts, many, several}
@@ -53,6 +53,24 @@ ends_by (node k texts ts) rest h = by (may_end_in_number k)
     by true = h
     by false = weaker rest h
 
+-- a text that begins with no blank
+abbrev pub is_fresh : Text → Bool
+is_fresh [] = false
+is_fresh (c ∷ cs) = not (is_blank c)
+
+pub fresh_append : (x y : Text) → is_fresh x ≡ true → is_fresh (x ++ y) ≡ true
+fresh_append [] y h = differ (sym h)
+fresh_append (c ∷ cs) y h = h
+
+no_line : (s p r : Bool) → not (s || p) ≡ true → (not p && (not (s || p) || r)) ≡ true
+no_line true p r h = differ (sym h)
+no_line false true r h = differ (sym h)
+no_line false false r h = refl
+
+pub fresh_line : (x : Text) → is_fresh x ≡ true → same_line (32 ∷ x) ≡ true
+fresh_line [] h = refl
+fresh_line (c ∷ cs) h = no_line (nat_eq c 32 || nat_eq c 9) (is_line_end c) (same_line cs) h
+
 abbrev pub Standing : Term → Text → Type 0
 Standing t rest = Stands whole (wrapped t) (printed (wrapped t) ++ rest) rest
 
@@ -65,6 +83,7 @@ pub record Lists (u : Term) (a b : Text) : Type 0 where
 pub record Claim (t : Term) : Type 0 where
   pub stands : fit expression t ≡ true → is_looser 2 (wrapped t) ≡ false → (rest : Text) → ends t rest ≡ true → Standing t rest
   pub lists : fit expression t ≡ true → (rest : Text) → ends t rest ≡ true → Lists (wrapped t) (printed (wrapped t) ++ rest) rest
+  pub fresh : fit expression t ≡ true → is_fresh (printed (wrapped t)) ≡ true
   pub states : fit (form.one Sort.statement) t ≡ true → (rest : Text) → Statement whole (wrapped t) (printed (wrapped t) ++ rest) rest
   pub declares : fit (form.one Sort.declaration) t ≡ true → (rest : Text) → Declaration whole (wrapped t) (printed (wrapped t) ++ rest) rest
 
@@ -130,11 +149,22 @@ held_stands need (node k texts ts) g h f rest e = by (need u) refl
 
 -- lists of parts
 
-pub listing : Terms → List Term
+abbrev pub listing : Terms → List Term
 listing none = []
 listing (more t ts) = t ∷ listing ts
 
 pub all_listing : (ts : Terms) → all (listing ts) ≡ ts
-unfolding listing
 all_listing none = refl
 all_listing (more t ts) = ap (more t) (all_listing ts)
+
+pub held_fresh : (need : Term → Bool) (t : Term) → Claims t → fit expression t ≡ true → is_fresh (printed (held need t)) ≡ true
+held_fresh need absent g h = differ (sym h)
+held_fresh need (list ts) g h = differ (sym h)
+held_fresh need (node k texts ts) g h = by (need u)
+  where
+    u : Term
+    u = node k texts (held_kids (needs k) ts)
+
+    by : (c : Bool) → is_fresh (printed (in_parentheses c u)) ≡ true
+    by true = refl
+    by false = g.0.fresh h
