@@ -17,11 +17,11 @@ use Rattle.std.specs.List.{list_all}
 use Rattle.js_print.proofs.Leads.{blank_fails, tens_digit}
 use Rattle.js_print.proofs.Standing.{true_not, text_same, expression, Standing, Lists, Claims, AllClaims, moved, held_level, held_piece, held_stands, listing, all_listing, ends, ends_by, is_fresh, fresh_append, held_fresh}
 
-or_left : (a b : Bool) → (a || b) ≡ false → a ≡ false
+pub or_left : (a b : Bool) → (a || b) ≡ false → a ≡ false
 or_left true b h = h
 or_left false b h = refl
 
-or_right : (a b : Bool) → (a || b) ≡ false → b ≡ false
+pub or_right : (a b : Bool) → (a || b) ≡ false → b ≡ false
 or_right true b h = differ h
 or_right false b h = h
 
@@ -60,7 +60,7 @@ boolean_step texts ts a p rest e =
 abbrev pub items : Terms → Terms
 items ts = held_kids (λ n. is_looser 2) ts
 
-tight : (n : ℕ) (u : Term) → is_looser n u ≡ false → is_looser n u ≡ false
+pub tight : (n : ℕ) (u : Term) → is_looser n u ≡ false → is_looser n u ≡ false
 tight n u h = h
 
 behind_some : (x : Text) (xs ps : List Text) → ps ≡ x ∷ xs → behind (codes ", ") ps ≡ codes ", " ++ commas ps

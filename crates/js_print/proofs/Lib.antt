@@ -6,3 +6,5 @@ pub mod Leads
 pub mod Standing
 pub mod Expressions
 pub mod Statements
+pub mod Modules
+pub mod Whole

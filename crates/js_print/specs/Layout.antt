@@ -46,8 +46,8 @@ abbrev pub cell : ℕ → List (List Text) → Text
 cell n rs = first (row n rs)
 
 -- one name for both, where they are the same
-abbrev pub renamed : Text → Text → Text
-renamed x y = if is_text x y then x else x ++ (codes " as " ++ y)
+abbrev pub renamed_text : Text → Text → Text
+renamed_text x y = if is_text x y then x else x ++ (codes " as " ++ y)
 
 abbrev pub property_laid : List Text → Text → Text → Text
 property_laid (form ∷ [] ∷ flags) key value = key ++ (codes ": " ++ value)
@@ -57,7 +57,7 @@ property_laid texts key value = key ++ value
 abbrev pub laid : Kind → List Text → List (List Text) → Text
 laid Kind.Program texts rs = lines (row 1 rs)
 laid Kind.ImportDeclaration texts rs = codes "import { " ++ (commas (row 0 rs) ++ (codes " } from " ++ (cell 1 rs ++ codes ";")))
-laid Kind.ImportSpecifier texts rs = renamed (cell 0 rs) (cell 1 rs)
+laid Kind.ImportSpecifier texts rs = renamed_text (cell 0 rs) (cell 1 rs)
 laid Kind.ExportDeclaration texts rs = codes "export " ++ cell 0 rs
 laid Kind.VariableDeclaration texts rs = first texts ++ (codes " " ++ (commas (row 0 rs) ++ codes ";"))
 laid Kind.VariableDeclarator texts rs = cell 0 rs ++ (codes " = " ++ cell 1 rs)
