@@ -1,0 +1,6 @@
+pub mod EveryKind
+pub mod SameTrees
+pub mod Names
+pub mod Declared
+pub mod Related
+pub mod Reading
