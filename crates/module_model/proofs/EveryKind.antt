@@ -64,3 +64,15 @@ pub every_kind : (f : Kind → Bool) → list_all f kinds ≡ true → (k : Kind
 every_kind f h k =
     let first : f Kind.Program ≡ true = (and_parts (f Kind.Program) (list_all f (drop 1 kinds)) h).0 in
     subst (λ m. f m ≡ true) (kind_back k) (passes_at f kinds Kind.Program (number_of_kind k) h first)
+
+-- what one test of a kind says for another
+pub when : (f g : Kind → Bool) → list_all (λ k. not (f k) || g k) kinds ≡ true → (k : Kind) → f k ≡ true → g k ≡ true
+when f g h k p = by (f k) (g k) (every_kind (λ m. not (f m) || g m) h k) p
+  where
+    by : (a b : Bool) → (not a || b) ≡ true → a ≡ true → b ≡ true
+    by true b q p = q
+    by false b q p = differ (sym p)
+
+-- the one kind that passes a test
+pub the_kind : (f : Kind → Bool) (m : Kind) → list_all (λ k. not (f k) || is_kind k m) kinds ≡ true → (k : Kind) → f k ≡ true → k ≡ m
+the_kind f m h k p = kind_same k m (when f (λ l. is_kind l m) h k p)

@@ -4,3 +4,5 @@ pub mod Names
 pub mod Declared
 pub mod Related
 pub mod Reading
+pub mod Fits
+pub mod Small
