@@ -6,3 +6,5 @@ pub mod Related
 pub mod Reading
 pub mod Fits
 pub mod Small
+pub mod Root
+pub mod Printable

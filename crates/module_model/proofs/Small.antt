@@ -1,7 +1,7 @@
 -- What the tables of small modules say of a module's statements.
 use Rattle.std.proofs.Common.{◌≡◌, refl, sym, ◌∙◌, ap, subst, ℕ, zero, suc, List, [], ◌∷◌, ◌++◌, Bool, true, false, not, ◌&&◌, ◌||◌}
 use Rattle.std.specs.List.{list_all}
-use Rattle.std.proofs.lemmas.Bool.{and_parts, and_from}
+use Rattle.std.proofs.lemmas.Bool.{and_parts, and_from, not-true}
 use Rattle.js_term.specs.Term.{Text, Kind, Term, absent, list, node, Terms, none, more, append, items, kids_of, text_of, first}
 use Rattle.js_term.specs.Lexeme.{is_word}
 use Rattle.js_term.specs.Scope.{Role, role, kid, declared_all}
@@ -107,10 +107,6 @@ here_inside Kind.ImportDeclaration texts h r = differ r
 here_inside Kind.ExportDeclaration texts h r = differ r
 here_inside k texts h r = refl
 
-no_root_form : (b : Bool) → not b ≡ true → b ≡ false
-no_root_form true h = sym h
-no_root_form false h = refl
-
 -- below the root all names are small, and no form is the root's
 mutual
   pub small_inside : (p : Place) (t : Term) → is_inner p ≡ true → small_at p t ≡ true → is_inside t ≡ true
@@ -119,7 +115,7 @@ mutual
   small_inside p (node k texts ts) i h =
       let n = small_node p k texts ts h in
       let a = and_parts (is_no_program k) (not (is_root_form (role k))) (inner_stands p k i n.stands) in
-      and_from (is_inside_here (role k) texts) (are_inside ts) (here_inside k texts n.named (no_root_form (is_root_form (role k)) a.1)) (all_inside (places k texts) ts (places_inner k texts a.0) n.parts)
+      and_from (is_inside_here (role k) texts) (are_inside ts) (here_inside k texts n.named (not-true (is_root_form (role k)) a.1)) (all_inside (places k texts) ts (places_inner k texts a.0) n.parts)
 
   pub each_inside : (p : Place) (ts : Terms) → is_inner p ≡ true → small_each p ts ≡ true → are_inside ts ≡ true
   each_inside p none i h = refl
