@@ -8,3 +8,4 @@ pub mod Fits
 pub mod Small
 pub mod Root
 pub mod Printable
+pub mod Output
