@@ -9,3 +9,4 @@ pub mod Small
 pub mod Root
 pub mod Printable
 pub mod Output
+pub mod Examples

@@ -1,5 +1,5 @@
 -- Names of small modules and the runner's names.
-use Rattle.std.proofs.Common.{◌≡◌, refl, sym, ◌∙◌, ap, ℕ, zero, suc, List, [], ◌∷◌, ◌++◌, Option, None, Some, Bool, true, false, not, ◌&&◌, ◌||◌, cond, ◌<◌, ◌^◌, arith, nat_eq, nat_lt, ◌⊎◌, inl, inr, ◌+◌, ◌/◌, ◌%◌, length, length-append, mod-lt}
+use Rattle.std.proofs.Common.{◌≡◌, refl, sym, ◌∙◌, ap, ℕ, zero, suc, List, [], ◌∷◌, ◌++◌, Option, None, Some, Bool, true, false, not, ◌&&◌, ◌||◌, cond, ◌<◌, ◌^◌, arith, nat_eq, ◌⊎◌, inl, inr, ◌+◌, ◌/◌, ◌%◌}
 use Rattle.std.specs.Prelude.{decimal, codes, ◌==◌}
 use Rattle.std.specs.Fmt.{digits, digits_onto, digit_glyph}
 use Rattle.std.specs.List.{list_all}
@@ -13,8 +13,7 @@ use Rattle.js_term.specs.Lexeme.{is_start, is_digit, is_part, is_one_of}
 use Rattle.js_term.specs.Scope.{Scope, Entry, here, arguments_object, imported, plainly, call_scope, entry_of}
 use Rattle.js_term.specs.Form.{is_marked, is_small_name, is_small_binding, is_binding_name}
 use Rattle.module_model.specs.Shape.{marked, import_name}
-use Rattle.module_model.specs.ReadBack.{is_runners, is_readable, is_bindable, is_request_name, numbered}
-use Rattle.module_model.proofs.EveryKind.{differ}
+use Rattle.module_model.specs.ReadBack.{is_readable, is_bindable, is_request_name, numbered}
 
 pub or_left : (a b : Bool) → a ≡ true → (a || b) ≡ true
 or_left a b p = rw p refl

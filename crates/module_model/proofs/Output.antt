@@ -1,5 +1,5 @@
 -- The output is read back as what the module means.
-use Rattle.std.proofs.Common.{◌≡◌, refl, sym, ◌∙◌, ap, subst, ℕ, zero, suc, ◌+◌, ◌<◌, ◌≤◌, ◌^◌, arith, List, [], ◌∷◌, ◌++◌, length, length-append, Option, None, Some, Bool, true, false, ◌&&◌, cond, add-zero}
+use Rattle.std.proofs.Common.{◌≡◌, refl, sym, ◌∙◌, ap, subst, ℕ, zero, suc, ◌+◌, ◌<◌, ◌^◌, arith, List, [], ◌∷◌, ◌++◌, length, length-append, Option, None, Some, Bool, true, false, ◌&&◌, add-zero}
 use Rattle.std.specs.Prelude.{codes, decimal}
 use Rattle.std.proofs.lemmas.Bool.{and_parts}
 use Rattle.std.proofs.lemmas.List.{append_cancel_left}
@@ -7,19 +7,17 @@ use Rattle.js_term.specs.Term.{Text, is_text, Term, absent, list, node, Terms, n
 use Rattle.js_term.specs.Scope.{Role, role, Env, entry_of, plainly, declared_all, all_brought, module_env}
 use Rattle.js_term.specs.Node.{const_of}
 use Rattle.js_term.specs.Form.{Sort, one, is_small, items_of}
-use Rattle.module_model.specs.Same.{same}
 use Rattle.module_model.specs.Shape.{marked, import_name, getter, request, strings}
-use Rattle.module_model.specs.Resolved.{resolved, resolved_each}
-use Rattle.module_model.specs.Meaning.{Request, Module, hashbang_of, directives_of, asks, asked, requests, all_handed_out, all_kept, exports_of, meaning}
+use Rattle.module_model.specs.Resolved.{resolved_each}
+use Rattle.module_model.specs.Meaning.{Request, hashbang_of, directives_of, asks, asked, requests, all_handed_out, all_kept, exports_of, meaning}
 use Rattle.module_model.specs.ReadBack.{at, texts_in, export_name, export_target, is_getter, request_source, request_names, is_request, exports_in, after_exports, requests_in, after_requests, fine_all, fine_targets, is_readable, is_bindable, is_request_name, has_object, targets, numbered, output_env, read_parts, read_stripped, read_back}
 use Rattle.module_model.specs.Run.{written, rewritten_each, getters, written_requests, run_items, run}
-use Rattle.module_model.proofs.EveryKind.{differ}
-use Rattle.module_model.proofs.Names.{Names, no_names, a_name, false_by, text_same, entry_append, plainly_no_object, numbered_none}
+use Rattle.module_model.proofs.Names.{Names, a_name, false_by, text_same, entry_append, plainly_no_object, numbered_none}
 use Rattle.module_model.proofs.Declared.{are_inside, declared_reads, names_declared_all}
 use Rattle.module_model.proofs.Related.{is_good, Related, quiet}
 use Rattle.module_model.proofs.Reading.{good_reads, same_resolved}
 use Rattle.module_model.proofs.SameTrees.{same_self, same_is}
-use Rattle.module_model.proofs.Small.{small_each, SmallModule, all_kept_inside, all_handed_names}
+use Rattle.module_model.proofs.Small.{small_each, all_kept_inside, all_handed_names}
 use Rattle.module_model.proofs.Root.{Brought, all_brought_by, kept_declares, related_roots}
 use Rattle.module_model.proofs.Printable.{small_form, run_bare}
 

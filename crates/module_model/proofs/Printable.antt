@@ -1,21 +1,21 @@
 -- The tree that is written for a small module is printable.
-use Rattle.std.proofs.Common.{◌≡◌, refl, sym, ◌∙◌, ap, subst, ℕ, zero, suc, ◌+◌, List, [], ◌∷◌, ◌++◌, length, Option, None, Some, Bool, true, false, not, ◌&&◌, ◌||◌, cond}
+use Rattle.std.proofs.Common.{◌≡◌, refl, sym, subst, ℕ, zero, suc, ◌+◌, List, [], ◌∷◌, length, Option, None, Some, Bool, true, false, not, ◌&&◌, ◌||◌, cond}
 use Rattle.std.specs.List.{list_all}
 use Rattle.std.proofs.lemmas.Bool.{and_parts, and_from, not-true}
 use Rattle.js_term.specs.Term.{Text, Kind, Term, absent, list, node, Terms, none, more, append, first, strip}
 use Rattle.js_term.specs.Lexeme.{is_word}
-use Rattle.js_term.specs.Scope.{Role, role, Env, Entry, here, arguments_object, imported, Answer, import_of, local, arguments_of, global, resolve, found, entry_of, call_scope, plainly, parameter_names, body_names, inner, all_brought, declared_all, module_env}
-use Rattle.js_term.specs.Form.{Sort, Place, one, nothing, many, some, single, several, empty, nowhere, takes_list, item_place, first_place, later_places, takes_kind, fits, fits_each, fits_places, stands_small, stands_printable, is_small_expression, is_written_expression, is_no_string, is_binding_name, is_small_name, is_small_binding, one_text, allows, places, is_printable, is_small, has_small_form, has_distinct_names, items_of}
-use Rattle.module_model.specs.Shape.{import_name, detached, getter, request, strings}
+use Rattle.js_term.specs.Scope.{Role, role, Env, Entry, here, arguments_object, imported, import_of, global, found, entry_of, call_scope, plainly, parameter_names, body_names, inner, all_brought, declared_all, module_env}
+use Rattle.js_term.specs.Form.{Sort, Place, one, nothing, many, some, single, several, empty, nowhere, takes_list, item_place, first_place, later_places, takes_kind, fits, fits_each, fits_places, stands_small, stands_printable, is_written_expression, is_binding_name, is_small_name, is_small_binding, one_text, allows, places, is_printable, is_small, has_small_form, has_distinct_names, items_of}
+use Rattle.module_model.specs.Shape.{detached, getter, request, strings}
 use Rattle.module_model.specs.Resolved.{read_kids, finished, with_callee, in_callee, is_reference, is_member, refers}
-use Rattle.module_model.specs.Meaning.{Request, hashbang_of, directives_of, all_handed_out, all_kept, requests}
+use Rattle.module_model.specs.Meaning.{Request, all_handed_out, all_kept, requests}
 use Rattle.module_model.specs.Run.{spelled, written, rewritten, rewritten_each, getters, written_requests, run_items, run}
 use Rattle.module_model.specs.Same.{is_kind}
 use Rattle.module_model.proofs.EveryKind.{differ, kinds, when, the_kind}
-use Rattle.module_model.proofs.Names.{Names, no_names, a_name, small_binding, bound_is_small, request_name_binds, or_else, entry_append, is_plain, plainly_is_plain, is_inner, call_is_inner}
+use Rattle.module_model.proofs.Names.{Names, a_name, small_binding, bound_is_small, request_name_binds, or_else, entry_append, is_plain, plainly_is_plain, is_inner, call_is_inner}
 use Rattle.module_model.proofs.Fits.{first_passes, widened, each_append, fits_bare}
 use Rattle.module_model.proofs.Small.{small_texts, small_at, small_each, small_all, small_kind, small_node, SmallModule, small_module, all_kept_small, all_handed_names}
-use Rattle.module_model.proofs.Root.{Brought, nothing as not_brought, brings_in, all_brought_by}
+use Rattle.module_model.proofs.Root.{Brought, brings_in, all_brought_by}
 
 abbrev printable_texts : Kind → List Text → Bool
 printable_texts = allows is_binding_name is_binding_name

@@ -1,10 +1,10 @@
 -- A tree as it is written for the runner is read as the tree.
-use Rattle.std.proofs.Common.{◌≡◌, refl, sym, ◌∙◌, ap, ℕ, zero, suc, List, [], ◌∷◌, Bool, true, false, ◌&&◌, cond, Option, None, Some}
+use Rattle.std.proofs.Common.{◌≡◌, refl, sym, ap, ℕ, suc, List, Bool, true, false, ◌&&◌, cond, None, Some}
 use Rattle.std.proofs.lemmas.Bool.{and_parts, and_from}
 use Rattle.js_term.specs.Term.{Text, Kind, Term, absent, list, node, Terms, none, more, first, head, rest}
 use Rattle.js_term.specs.Scope.{Role, role, Env, Answer, import_of, local, arguments_of, global, resolve, inner}
 use Rattle.module_model.specs.Shape.{detached}
-use Rattle.module_model.specs.Resolved.{read, read_kids, finished, with_callee, in_callee, is_reference, is_member, answered, of_answer, resolved, resolved_each}
+use Rattle.module_model.specs.Resolved.{read_kids, finished, with_callee, in_callee, is_reference, is_member, answered, of_answer, resolved_each}
 use Rattle.module_model.specs.ReadBack.{fine_all, is_readable, is_bindable}
 use Rattle.module_model.specs.Run.{spelled, written, rewritten, rewritten_each}
 use Rattle.module_model.proofs.EveryKind.{differ}

@@ -1,11 +1,10 @@
 -- The environments of a module and of the tree that is written for it.
-use Rattle.std.proofs.Common.{◌≡◌, refl, sym, ◌∙◌, ap, ℕ, zero, suc, List, [], ◌∷◌, ◌++◌, Bool, true, false, length, Option, None, Some}
-use Rattle.std.specs.Prelude.{codes}
+use Rattle.std.proofs.Common.{◌≡◌, refl, sym, ◌∙◌, ap, ℕ, zero, suc, List, [], ◌∷◌, Bool, true, false, length, Option, None, Some}
 use Rattle.std.proofs.lemmas.Bool.{and_from}
 use Rattle.js_term.specs.Term.{Text, Term, Terms, rest}
 use Rattle.js_term.specs.Scope.{Role, Env, Entry, here, arguments_object, imported, Answer, import_of, local, arguments_of, global, resolve, entry_of, call_scope, declared, declared_all, kid, inner, parameter_names, body_names}
 use Rattle.js_term.specs.Form.{is_small_name}
-use Rattle.module_model.specs.Resolved.{read, answered, of_answer}
+use Rattle.module_model.specs.Resolved.{read, answered}
 use Rattle.module_model.specs.ReadBack.{fine, is_readable, is_bindable}
 use Rattle.module_model.specs.Run.{spelled, written}
 use Rattle.module_model.proofs.EveryKind.{differ}

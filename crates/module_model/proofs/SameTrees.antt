@@ -1,5 +1,5 @@
 -- The test of two trees tells whether they are one.
-use Rattle.std.proofs.Common.{◌≡◌, refl, sym, ap, List, Bool, true, false, ◌&&◌}
+use Rattle.std.proofs.Common.{◌≡◌, refl, sym, ap, List, true, ◌&&◌}
 use lib.Pointwise.{pointwise, pointwise_decides}
 use Rattle.std.specs.Cmp.Lexicographic.{bytes_decides}
 use Rattle.std.proofs.lemmas.Bool.{and_parts}

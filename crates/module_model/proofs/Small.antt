@@ -1,17 +1,16 @@
 -- What the tables of small modules say of a module's statements.
-use Rattle.std.proofs.Common.{◌≡◌, refl, sym, ◌∙◌, ap, subst, ℕ, zero, suc, List, [], ◌∷◌, ◌++◌, Bool, true, false, not, ◌&&◌, ◌||◌}
+use Rattle.std.proofs.Common.{◌≡◌, refl, sym, subst, List, [], ◌∷◌, Bool, true, false, not, ◌&&◌, ◌||◌}
 use Rattle.std.specs.List.{list_all}
 use Rattle.std.proofs.lemmas.Bool.{and_parts, and_from, not-true}
-use Rattle.js_term.specs.Term.{Text, Kind, Term, absent, list, node, Terms, none, more, append, items, kids_of, text_of, first}
-use Rattle.js_term.specs.Lexeme.{is_word}
-use Rattle.js_term.specs.Scope.{Role, role, kid, declared_all}
-use Rattle.js_term.specs.Form.{Sort, Place, one, nothing, many, some, single, several, empty, nowhere, takes_list, item_place, first_place, later_places, takes_kind, fits, fits_each, fits_places, stands_small, allows, places, property_places, no_texts, is_small_name, is_small_binding, has_small_form, items_of, is_item, is_declaration}
+use Rattle.js_term.specs.Term.{Text, Kind, Term, absent, list, node, Terms, none, more, append, items, first}
+use Rattle.js_term.specs.Scope.{Role, role, kid}
+use Rattle.js_term.specs.Form.{Sort, Place, one, many, some, single, several, empty, takes_list, item_place, first_place, later_places, takes_kind, fits, fits_each, fits_places, stands_small, allows, places, property_places, no_texts, is_small_name, is_small_binding, has_small_form, items_of, is_item, is_declaration}
 use Rattle.module_model.specs.Same.{is_kind}
 use Rattle.module_model.specs.Meaning.{hashbang_of, directives_of, keeps, kept, all_kept, hands_out, handed_out, all_handed_out}
-use Rattle.module_model.proofs.EveryKind.{differ, kinds, every_kind, when, the_kind}
+use Rattle.module_model.proofs.EveryKind.{differ, kinds, when, the_kind}
 use Rattle.module_model.proofs.Names.{bound_is_small, Names, no_names, names_append}
 use Rattle.module_model.proofs.Declared.{is_inside, are_inside, is_inside_here, names_declared_all}
-use Rattle.module_model.proofs.Fits.{first_passes, nothing_fits, widened, each_append, first_fits, only_fits}
+use Rattle.module_model.proofs.Fits.{first_passes, widened, each_append, first_fits, only_fits}
 
 abbrev pub small_texts : Kind → List Text → Bool
 small_texts = allows is_small_name is_small_binding
