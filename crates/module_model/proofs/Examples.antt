@@ -20,5 +20,5 @@ examples = record {
   no_module_runs = refl;
   no_module_reads = refl;
   import_left = refl;
-  name_left = refl
+  name_left = refl;
 }

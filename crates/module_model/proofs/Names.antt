@@ -69,9 +69,10 @@ same_or_below n j h = by (nat_eq j n) (eqb-true j n) (eqb-false j n)
 pub request_readable : (n j : ℕ) → j < n → is_request_name n (import_name j) ≡ true
 request_readable zero j h = absurd (omega arith)
 request_readable (suc n) j h =
-    elim (same_or_below n j h) as (λ v. is_request_name (suc n) (import_name j) ≡ true)
-        [ inl e ↦ or_left (is_text (import_name j) (import_name n)) (is_request_name n (import_name j)) (ap (λ m. is_text (import_name j) (import_name m)) (sym e.1) ∙ is_text_same (import_name j))
-        | inr e ↦ or_right (is_text (import_name j) (import_name n)) (is_request_name n (import_name j)) (request_readable n j e.1) ]
+    elim (same_or_below n j h) as (λ v. is_request_name (suc n) (import_name j) ≡ true) [
+      | inl e ↦ or_left (is_text (import_name j) (import_name n)) (is_request_name n (import_name j)) (ap (λ m. is_text (import_name j) (import_name m)) (sym e.1) ∙ is_text_same (import_name j))
+      | inr e ↦ or_right (is_text (import_name j) (import_name n)) (is_request_name n (import_name j)) (request_readable n j e.1)
+    ]
 
 abbrev end : Text
 end = codes "__"
@@ -82,11 +83,12 @@ names_differ i j e = append_cancel_right (decimal i) (decimal j) end (append_can
 pub numbered_finds : (n j : ℕ) → n < 2 ^ 64 → j < n → entry_of (numbered n) (import_name j) ≡ Some (imported j None)
 numbered_finds zero j b h = absurd (omega arith)
 numbered_finds (suc n) j b h =
-    elim (same_or_below n j h) as (λ v. entry_of (numbered (suc n)) (import_name j) ≡ Some (imported j None))
-        [ inl e ↦ rw (ap (λ m. is_text (import_name m) (import_name j)) (sym e.1) ∙ is_text_same (import_name j), sym e.1) refl
-        | inr e ↦
-            let other : is_text (import_name n) (import_name j) ≡ false = false_by (is_text (import_name n) (import_name j)) (λ t. absurd (let q : n ≡ j = decimal_injective n j (omega arith) (omega arith) (names_differ n j (text_same (import_name n) (import_name j) t)) in omega arith)) in
-            rw other (numbered_finds n j (omega arith) e.1) ]
+    elim (same_or_below n j h) as (λ v. entry_of (numbered (suc n)) (import_name j) ≡ Some (imported j None)) [
+      | inl e ↦ rw (ap (λ m. is_text (import_name m) (import_name j)) (sym e.1) ∙ is_text_same (import_name j), sym e.1) refl
+      | inr e ↦
+          let other : is_text (import_name n) (import_name j) ≡ false = false_by (is_text (import_name n) (import_name j)) (λ t. absurd (let q : n ≡ j = decimal_injective n j (omega arith) (omega arith) (names_differ n j (text_same (import_name n) (import_name j) t)) in omega arith)) in
+          rw other (numbered_finds n j (omega arith) e.1)
+    ]
 
 pub numbered_none : (n : ℕ) (x : Text) → is_marked x ≡ false → entry_of (numbered n) x ≡ None
 numbered_none zero x p = refl
@@ -104,7 +106,7 @@ digits_are_parts (suc k) n ds h =
     let digit : is_part (digit_glyph false (n % 10)) ≡ true = below_ten (n % 10) (omega arith) in
     let more : list_all is_part (digit_glyph false (n % 10) ∷ ds) ≡ true = and_from (is_part (digit_glyph false (n % 10))) (list_all is_part ds) digit h in
     elim (n / 10 == 0) as (λ b. list_all is_part (cond b (digit_glyph false (n % 10) ∷ ds) (digits_onto k 10 false (n / 10) (digit_glyph false (n % 10) ∷ ds))) ≡ true)
-        [ true ↦ more | false ↦ digits_are_parts k (n / 10) (digit_glyph false (n % 10) ∷ ds) more ]
+    [ true ↦ more | false ↦ digits_are_parts k (n / 10) (digit_glyph false (n % 10) ∷ ds) more ]
 
 decimal_parts : (n : ℕ) → list_all is_part (decimal n) ≡ true
 unfolding digits
@@ -130,7 +132,7 @@ pub entry_append : (s t : Scope) (x : Text) → entry_of (s ++ t) x ≡ or_else 
 entry_append [] t x = refl
 entry_append (e ∷ s) t x =
     elim (is_text e.0 x) as (λ b. cond b (Some e.1) (entry_of (s ++ t) x) ≡ or_else (cond b (Some e.1) (entry_of s x)) (entry_of t x))
-        [ true ↦ refl | false ↦ entry_append s t x ]
+    [ true ↦ refl | false ↦ entry_append s t x ]
 
 -- such names hide no request, and not `Object`
 pub plainly_no_request : (xs : List Text) (j : ℕ) → Names xs → entry_of (plainly xs) (import_name j) ≡ None

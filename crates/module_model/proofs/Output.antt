@@ -29,10 +29,10 @@ exports_name (suc n) = exports_name n
 importer_other : (j : ℕ) → is_text (marked (codes "import__")) (import_name j) ≡ false
 importer_other j =
     false_by (is_text (marked (codes "import__")) (import_name j)) (λ e.
-        let q : codes "_" ≡ decimal j ++ codes "__" = append_cancel_left (marked (codes "import_")) (codes "_") (decimal j ++ codes "__") (text_same (marked (codes "import__")) (import_name j) e) in
-        let l : length (codes "_") ≡ length (decimal j ++ codes "__") = ap length q in
-        let m : length (decimal j ++ codes "__") ≡ length (decimal j) + 2 = length-append (decimal j) (codes "__") in
-        absurd (omega arith))
+    let q : codes "_" ≡ decimal j ++ codes "__" = append_cancel_left (marked (codes "import_")) (codes "_") (decimal j ++ codes "__") (text_same (marked (codes "import__")) (import_name j) e) in
+    let l : length (codes "_") ≡ length (decimal j ++ codes "__") = ap length q in
+    let m : length (decimal j ++ codes "__") ≡ length (decimal j) + 2 = length-append (decimal j) (codes "__") in
+    absurd (omega arith))
 
 importer_name : (n : ℕ) → is_request_name n (marked (codes "import__")) ≡ false
 importer_name zero = refl
@@ -62,9 +62,9 @@ module _ (n : ℕ) where
   no_request : (j : ℕ) (t : Term) → is_good n t ≡ true → is_request j t ≡ false
   no_request j t h =
       false_by (is_request j t) (λ e.
-          let p : is_good n (request j (request_source t) (request_names t)) ≡ true = ap (is_good n) (sym (same_is t (request j (request_source t) (request_names t)) e)) ∙ h in
-          let q : is_good n (at (0 ∷ 0 ∷ 1 ∷ []) (request j (request_source t) (request_names t))) ≡ true = const_good (import_name j) (at (0 ∷ 0 ∷ 1 ∷ []) (request j (request_source t) (request_names t))) p in
-          rw (importer_name n) at q)
+      let p : is_good n (request j (request_source t) (request_names t)) ≡ true = ap (is_good n) (sym (same_is t (request j (request_source t) (request_names t)) e)) ∙ h in
+      let q : is_good n (at (0 ∷ 0 ∷ 1 ∷ []) (request j (request_source t) (request_names t))) ≡ true = const_good (import_name j) (at (0 ∷ 0 ∷ 1 ∷ []) (request j (request_source t) (request_names t))) p in
+      rw (importer_name n) at q)
 
   good_no_exports : (ts : Terms) → are_good ts ≡ true → exports_in ts ≡ []
   good_no_exports none h = refl

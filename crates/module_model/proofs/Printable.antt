@@ -95,7 +95,7 @@ brought_root n xs x h (Some (imported j (Some k))) (brings_in l w) = member_prin
 
 writes_root : (ts : Terms) → small_each (one Sort.item) ts ≡ true → Writes (module_env ts)
 writes_root ts h = record {
-  expression = λ x s. rw (entry_append (all_brought 0 ts) (plainly (declared_all ts)) x) (brought_root (length (requests ts) + 0) (declared_all ts) x s (entry_of (all_brought 0 ts) x) (all_brought_by 0 ts x h))
+  expression = λ x s. rw (entry_append (all_brought 0 ts) (plainly (declared_all ts)) x) (brought_root (length (requests ts) + 0) (declared_all ts) x s (entry_of (all_brought 0 ts) x) (all_brought_by 0 ts x h));
 }
 
 -- a reference fits where it stood
@@ -212,7 +212,7 @@ items_fit ts h =
     let qs : Terms = written_requests 0 (requests ts) in
     let ss : Terms = rewritten_each env (all_kept ts) in
     each_append stands_printable printable_texts places (one Sort.item) gs (append qs ss) (getters_fit env w (all_handed_out ts) (all_handed_names ts h))
-        (each_append stands_printable printable_texts places (one Sort.item) qs ss (requests_fit 0 (requests ts)) (each_fits (λ n. env) (λ n. w) (one Sort.item) (all_kept ts) (all_kept_small ts h)))
+    (each_append stands_printable printable_texts places (one Sort.item) qs ss (requests_fit 0 (requests ts)) (each_fits (λ n. env) (λ n. w) (one Sort.item) (all_kept ts) (all_kept_small ts h)))
 
 pub small_form : (t : Term) → is_small t ≡ true → SmallModule t
 small_form t h = small_module t (and_parts (has_small_form t) (has_distinct_names t) h).0

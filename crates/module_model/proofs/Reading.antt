@@ -17,7 +17,7 @@ pub written_alike : (envs : ℕ → Env) (ts : Terms) → Alike ts (read_kids wr
 written_alike envs ts = record {
   every = declared_reads written quiet envs ts;
   later = declared_rest written quiet envs ts;
-  each = λ m. declared_kid written quiet m envs ts
+  each = λ m. declared_kid written quiet m envs ts;
 }
 
 module _ (n : ℕ) where

@@ -49,7 +49,7 @@ module _ (n : ℕ) (env out : Env) (r : Related n env out) (xs : List Text) (p :
   related_under = record {
     meets = λ x h. meets_under x h (entry_of (call_scope xs) x) refl (call_is_inner xs x);
     readable = λ x h. readable_under x h (entry_of (call_scope xs) x) refl (call_is_inner xs x);
-    deep = ap suc r.deep
+    deep = ap suc r.deep;
   }
 
 -- two lists of parts that declare the same

@@ -50,8 +50,7 @@ bound_brought j none x h = nothing
 bound_brought j (more t ts) x h =
     let a = and_parts (small_at (one Sort.specifier) t) (small_each (one Sort.specifier) ts) h in
     elim (is_text (text_of (kid 1 (kids_of t))) x) as (λ b. Brought (suc j) (cond b (Some (imported j (Some (text_of (kid 0 (kids_of t)))))) (entry_of (bound_by j ts) x)))
-        [ true ↦ brings_in (omega arith) (imported_is_word t a.0) | false ↦ bound_brought j ts x a.1 ]
-
+    [ true ↦ brings_in (omega arith) (imported_is_word t a.0) | false ↦ bound_brought j ts x a.1 ]
 
 import_kind : (k : Kind) → role k ≡ Role.imports → k ≡ Kind.ImportDeclaration
 import_kind k e = the_kind (λ m. is_request (role m)) Kind.ImportDeclaration refl k (rw e refl)
@@ -83,10 +82,10 @@ all_brought_by j (more t ts) x h =
     let a = and_parts (small_at (one Sort.item) t) (small_each (one Sort.item) ts) h in
     let p : past t j ≡ length (asked t) + j = past_asked j t in
     let l : length (asked t ++ requests ts) ≡ length (asked t) + length (requests ts) = length-append (asked t) (requests ts) in
-    rw (entry_append (brought j t) (all_brought (past t j) ts) x)
-        (brought_either (length (asked t ++ requests ts) + j) (entry_of (brought j t) x) (entry_of (all_brought (past t j) ts) x)
-            (brought_more (length (asked t) + j) (length (asked t ++ requests ts) + j) (entry_of (brought j t) x) (omega arith) (term_brought j t x a.0))
-            (brought_more (length (requests ts) + past t j) (length (asked t ++ requests ts) + j) (entry_of (all_brought (past t j) ts) x) (omega arith) (all_brought_by (past t j) ts x a.1)))
+    let n : ℕ = length (asked t ++ requests ts) + j in
+    let before : Brought n (entry_of (brought j t) x) = brought_more (length (asked t) + j) n (entry_of (brought j t) x) (omega arith) (term_brought j t x a.0) in
+    let behind : Brought n (entry_of (all_brought (past t j) ts) x) = brought_more (length (requests ts) + past t j) n (entry_of (all_brought (past t j) ts) x) (omega arith) (all_brought_by (past t j) ts x a.1) in
+    rw (entry_append (brought j t) (all_brought (past t j) ts) x) (brought_either n (entry_of (brought j t) x) (entry_of (all_brought (past t j) ts) x) before behind)
 
 -- what is kept declares what the module declares
 declared_append : (ts us : Terms) → declared_all (append ts us) ≡ declared_all ts ++ declared_all us
@@ -157,5 +156,5 @@ module _ (bs : Scope) (xs : List Text) (p : Names xs) (n : ℕ) (few : n < 2 ^ 6
   related_roots = record {
     meets = λ x h. rw (entry_append bs (plainly xs) x) (meets_by x h (entry_of bs x) (brought_by x));
     readable = λ x h. rw (entry_append bs (plainly xs) x) (readable_by x h (entry_of bs x) (brought_by x));
-    deep = refl
+    deep = refl;
   }

@@ -160,7 +160,7 @@ small_module (node k texts ts) h =
     record {
       no_hashbang = named;
       no_directives = empty_items (kid 0 ts) (first_fits stands_small small_texts places empty (many Sort.item ∷ []) ts parts);
-      small_items = many_items Sort.item (kid 1 ts) (second_fits empty (many Sort.item) ts parts)
+      small_items = many_items Sort.item (kid 1 ts) (second_fits empty (many Sort.item) ts parts);
     }
 
 -- what stays of a statement

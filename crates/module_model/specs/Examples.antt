@@ -1,10 +1,10 @@
 -- Small modules, with what they mean and what the runner is given for them.
-use Rattle.std.specs.Prelude.{◌≡◌, List, [], ◌∷◌, Option, None, Some, Bool, true, false, codes}
+use Rattle.std.specs.Prelude.{◌≡◌, List, [], ◌∷◌, None, Some, true, false, codes}
 use Rattle.js_term.specs.Term.{Text, Kind, Term, Terms, node, none, more, one, two}
 use Rattle.js_term.specs.Node.{identifier_of, string_of, number_of, call_of, member_of, await_of, array_of, object_of, property_of, const_of, return_of, statement_of, function_of, specifier_of, import_declaration_of, export_declaration_of, program_of}
 use Rattle.js_term.specs.Form.{is_small}
 use Rattle.module_model.specs.Shape.{detached, getter}
-use Rattle.module_model.specs.Meaning.{Request, Module, meaning}
+use Rattle.module_model.specs.Meaning.{Request, meaning}
 use Rattle.module_model.specs.ReadBack.{read_back}
 use Rattle.module_model.specs.Run.{run}
 
@@ -30,16 +30,23 @@ calls_import = program_of (two (import_declaration_of (one (specifier_of (codes 
 abbrev foo_of : Term → Term
 foo_of callee = function_of (codes "foo") [] (one (return_of (call_of (detached callee) (one (number_of (codes "0"))))))
 
--- import { a as b, c } from 'm'; export const x = b(c); function f(b) { return b; }
-abbrev pub renames : Term
-renames =
-    program_of (more (import_declaration_of (two (specifier_of (codes "a") (codes "b")) (specifier_of (codes "c") (codes "c"))) (codes "m"))
-        (two (export_declaration_of (const_of (codes "x") (call_of (identifier_of (codes "b")) (one (identifier_of (codes "c"))))))
-            (function_of (codes "f") (codes "b" ∷ []) (one (return_of (identifier_of (codes "b")))))))
-
 -- function f(b) { return value; }
 abbrev f_of : Term → Term
 f_of value = function_of (codes "f") (codes "b" ∷ []) (one (return_of value))
+
+-- const x = callee(argument);
+abbrev x_of : Term → Term → Term
+x_of callee argument = const_of (codes "x") (call_of callee (one argument))
+
+abbrev renamed_import : Term
+renamed_import = import_declaration_of (two (specifier_of (codes "a") (codes "b")) (specifier_of (codes "c") (codes "c"))) (codes "m")
+
+-- import { a as b, c } from 'm'; export const x = b(c); function f(b) { return b; }
+abbrev pub renames : Term
+renames = program_of (more renamed_import (two (export_declaration_of (x_of (identifier_of (codes "b")) (identifier_of (codes "c")))) (f_of (identifier_of (codes "b")))))
+
+abbrev renames_request : Term
+renames_request = written_request (codes "m") (two (string_of (codes "a")) (string_of (codes "c")))
 
 -- a name that the d-th scope declares, counted from the module's
 abbrev local_name : Text → Text → Term
@@ -65,9 +72,9 @@ pub record Examples : Type 0 where
     directives = none;
     requests = only_request (codes "m") (codes "a" ∷ codes "c" ∷ []);
     exports = (codes "x", local_name (codes "0") (codes "x")) ∷ [];
-    statements = two (const_of (codes "x") (call_of (detached (imported_member (codes "a"))) (one (imported_member (codes "c"))))) (f_of (local_name (codes "1") (codes "b")))
+    statements = two (x_of (detached (imported_member (codes "a"))) (imported_member (codes "c"))) (f_of (local_name (codes "1") (codes "b")));
   }
-  pub renames_runs : run renames ≡ program_of (more (getter (codes "x") (identifier_of (codes "x"))) (more (written_request (codes "m") (two (string_of (codes "a")) (string_of (codes "c")))) (two (const_of (codes "x") (call_of (detached (written_member (codes "a"))) (one (written_member (codes "c"))))) (f_of (identifier_of (codes "b"))))))
+  pub renames_runs : run renames ≡ program_of (more (getter (codes "x") (identifier_of (codes "x"))) (more renames_request (two (x_of (detached (written_member (codes "a"))) (written_member (codes "c"))) (f_of (identifier_of (codes "b"))))))
   pub renames_reads : read_back (run renames) ≡ Some (meaning renames)
   pub no_module_small : is_small no_module ≡ true
   pub no_module_means : meaning no_module ≡ record { hashbang = []; directives = none; requests = []; exports = []; statements = none }

@@ -16,19 +16,16 @@ ghost use Rattle.module_model.specs.Examples.{Examples};
 #[tactic(auto, using(crate::proofs::Output::run_means))]
 pub fn run_means()
     ensures { (t : Term) → is_small t ≡ true → length (requests (items_of t)) < 2 ^ 64 → read_back (run t) ≡ Some (meaning t) }
-{
-}
+{}
 
 /// That tree is one that the printer writes.
 #[tactic(auto, using(crate::proofs::Printable::run_printable))]
 pub fn run_printable()
     ensures { (t : Term) → is_small t ≡ true → is_printable (run t) ≡ true }
-{
-}
+{}
 
 /// The definitions at four modules.
 #[tactic(auto, using(crate::proofs::Examples::examples))]
 pub fn worked_examples()
     ensures { Examples }
-{
-}
+{}
