@@ -11,16 +11,11 @@ use Rattle.module_model.proofs.Names.{Names, no_names, a_name, names_append}
 module _ (f : Env → Text → Term) (quiet : (env : Env) (x : Text) → declared (f env x) ≡ []) where
   by_role : (env : Env) (k : Kind) (texts : List Text) (ts us : Terms) → declared_all us ≡ declared_all ts → declared_first us ≡ declared_first ts → (r : Role) → role k ≡ r → declared (finished (f env) r k texts ts us) ≡ declares r texts (declared_all ts) (declared_first ts)
   by_role env k texts ts us p q Role.reference e = quiet env (first texts)
-  by_role env k texts ts us p q Role.bound e = rw e refl
-  by_role env k texts ts us p q Role.calls e = rw e refl
-  by_role env k texts ts us p q Role.member e = rw e refl
-  by_role env k texts ts us p q Role.function_value e = rw e refl
   by_role env k texts ts us p q Role.function_named e = rw e q
   by_role env k texts ts us p q Role.all_kids e = rw e p
   by_role env k texts ts us p q Role.first_kid e = rw e q
-  by_role env k texts ts us p q Role.imports e = rw e refl
   by_role env k texts ts us p q Role.exports_declaration e = rw e p
-  by_role env k texts ts us p q Role.other e = rw e refl
+  by_role env k texts ts us p q r e = rw e refl
 
   mutual
     pub declared_read : (env : Env) (t : Term) → declared (read f env t) ≡ declared t
@@ -57,17 +52,12 @@ abbrev pub is_inside_here : Role → List Text → Bool
 is_inside_here = fine_here is_small_name is_small_name
 
 names_by_role : (texts : List Text) (ts : Terms) → Names (declared_all ts) → Names (declared_first ts) → (r : Role) → is_inside_here r texts ≡ true → Names (declares r texts (declared_all ts) (declared_first ts))
-names_by_role texts ts p q Role.reference h = no_names
 names_by_role texts ts p q Role.bound h = a_name h no_names
-names_by_role texts ts p q Role.calls h = no_names
-names_by_role texts ts p q Role.member h = no_names
-names_by_role texts ts p q Role.function_value h = no_names
 names_by_role texts ts p q Role.function_named h = q
 names_by_role texts ts p q Role.all_kids h = p
 names_by_role texts ts p q Role.first_kid h = q
-names_by_role texts ts p q Role.imports h = no_names
 names_by_role texts ts p q Role.exports_declaration h = p
-names_by_role texts ts p q Role.other h = no_names
+names_by_role texts ts p q r h = no_names
 
 mutual
   pub names_declared : (t : Term) → is_inside t ≡ true → Names (declared t)

@@ -15,10 +15,10 @@ examples = record {
   renames_means = refl;
   renames_runs = refl;
   renames_reads = run_means renames refl (lit< tt);
-  no_module_small = refl;
-  no_module_means = refl;
-  no_module_runs = refl;
-  no_module_reads = refl;
+  empty_module_small = refl;
+  empty_module_means = refl;
+  empty_module_runs = refl;
+  empty_module_reads = refl;
   import_left = refl;
   name_left = refl;
 }

@@ -36,16 +36,8 @@ module _ (n : ℕ) where
 
   callee_role : (env out : Env) → Related n env out → (k : Kind) (texts : List Text) (ts : Terms) → is_inside_here (role k) texts ≡ true → (us vs : Terms) → (r : Role) → role k ≡ r → let u = finished (written env) r k texts ts us in let v = finished (answered env) r k texts ts vs in answers out u ≡ v → in_callee (in_callee (node k texts ts) u) (answers out (in_callee (node k texts ts) u)) ≡ in_callee (node k texts ts) v
   callee_role env out x k texts ts h us vs Role.reference e q = callee_reference out (node k texts ts) (rw e refl) (first texts) (resolve env (first texts)) (x.meets (first texts) (rw e at h))
-  callee_role env out x k texts ts h us vs Role.bound e q = callee_other out (node k texts ts) (node k texts us) (node k texts vs) (rw e refl) (rw e refl) q
   callee_role env out x k texts ts h us vs Role.calls e q = callee_other out (node k texts ts) (node k texts (with_callee ts us)) (node k texts (with_callee ts vs)) (rw e refl) (rw e refl) q
-  callee_role env out x k texts ts h us vs Role.member e q = callee_other out (node k texts ts) (node k texts us) (node k texts vs) (rw e refl) (rw e refl) q
-  callee_role env out x k texts ts h us vs Role.function_value e q = callee_other out (node k texts ts) (node k texts us) (node k texts vs) (rw e refl) (rw e refl) q
-  callee_role env out x k texts ts h us vs Role.function_named e q = callee_other out (node k texts ts) (node k texts us) (node k texts vs) (rw e refl) (rw e refl) q
-  callee_role env out x k texts ts h us vs Role.all_kids e q = callee_other out (node k texts ts) (node k texts us) (node k texts vs) (rw e refl) (rw e refl) q
-  callee_role env out x k texts ts h us vs Role.first_kid e q = callee_other out (node k texts ts) (node k texts us) (node k texts vs) (rw e refl) (rw e refl) q
-  callee_role env out x k texts ts h us vs Role.imports e q = callee_other out (node k texts ts) (node k texts us) (node k texts vs) (rw e refl) (rw e refl) q
-  callee_role env out x k texts ts h us vs Role.exports_declaration e q = callee_other out (node k texts ts) (node k texts us) (node k texts vs) (rw e refl) (rw e refl) q
-  callee_role env out x k texts ts h us vs Role.other e q = callee_other out (node k texts ts) (node k texts us) (node k texts vs) (rw e refl) (rw e refl) q
+  callee_role env out x k texts ts h us vs r e q = callee_other out (node k texts ts) (node k texts us) (node k texts vs) (rw e refl) (rw e refl) q
 
   callee : (env out : Env) → Related n env out → (t : Term) → is_inside t ≡ true → answers out (rewritten env t) ≡ answers env t → in_callee (in_callee t (rewritten env t)) (answers out (in_callee t (rewritten env t))) ≡ in_callee t (answers env t)
   callee env out x absent h e = refl
@@ -71,15 +63,7 @@ module _ (n : ℕ) where
   read_role : (env out : Env) → Related n env out → (k : Kind) (texts : List Text) (ts : Terms) → is_inside_here (role k) texts ≡ true → are_inside ts ≡ true → Kids ts → (r : Role) → role k ≡ r → answers out (finished (written env) r k texts ts (read_kids written (inner r env ts) ts)) ≡ finished (answered env) r k texts ts (read_kids answered (inner r env ts) ts)
   read_role env out x k texts ts h hs kids Role.reference e = x.meets (first texts) (rw e at h)
   read_role env out x k texts ts h hs kids Role.calls e = rw e (ap (node k texts) (with_callee_same env out x ts hs kids))
-  read_role env out x k texts ts h hs kids Role.bound e = rw e (ap (node k texts) (inside env out x Role.bound ts hs kids))
-  read_role env out x k texts ts h hs kids Role.member e = rw e (ap (node k texts) (inside env out x Role.member ts hs kids))
-  read_role env out x k texts ts h hs kids Role.function_value e = rw e (ap (node k texts) (inside env out x Role.function_value ts hs kids))
-  read_role env out x k texts ts h hs kids Role.function_named e = rw e (ap (node k texts) (inside env out x Role.function_named ts hs kids))
-  read_role env out x k texts ts h hs kids Role.all_kids e = rw e (ap (node k texts) (inside env out x Role.all_kids ts hs kids))
-  read_role env out x k texts ts h hs kids Role.first_kid e = rw e (ap (node k texts) (inside env out x Role.first_kid ts hs kids))
-  read_role env out x k texts ts h hs kids Role.imports e = rw e (ap (node k texts) (inside env out x Role.imports ts hs kids))
-  read_role env out x k texts ts h hs kids Role.exports_declaration e = rw e (ap (node k texts) (inside env out x Role.exports_declaration ts hs kids))
-  read_role env out x k texts ts h hs kids Role.other e = rw e (ap (node k texts) (inside env out x Role.other ts hs kids))
+  read_role env out x k texts ts h hs kids r e = rw e (ap (node k texts) (inside env out x r ts hs kids))
 
   mutual
     pub same_read : (env out : Env) → Related n env out → (t : Term) → is_inside t ≡ true → answers out (rewritten env t) ≡ answers env t
@@ -120,14 +104,9 @@ module _ (n : ℕ) where
   good_role env out x k texts ts us h g Role.reference e = x.readable (first texts) (rw e at h)
   good_role env out x k texts ts us h g Role.bound e = rw e (and_from (is_bindable (first texts)) (are_good us) (small_bindable (first texts) (rw e at h)) g)
   good_role env out x k texts ts us h g Role.calls e = rw e (good_with_callee ts us g)
-  good_role env out x k texts ts us h g Role.member e = rw e g
-  good_role env out x k texts ts us h g Role.function_value e = rw e g
-  good_role env out x k texts ts us h g Role.function_named e = rw e g
-  good_role env out x k texts ts us h g Role.all_kids e = rw e g
-  good_role env out x k texts ts us h g Role.first_kid e = rw e g
   good_role env out x k texts ts us h g Role.imports e = differ (sym (rw e at h))
   good_role env out x k texts ts us h g Role.exports_declaration e = differ (sym (rw e at h))
-  good_role env out x k texts ts us h g Role.other e = rw e g
+  good_role env out x k texts ts us h g r e = rw e g
 
   mutual
     pub good_read : (env out : Env) → Related n env out → (t : Term) → is_inside t ≡ true → is_good n (rewritten env t) ≡ true

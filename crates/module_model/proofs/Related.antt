@@ -67,15 +67,7 @@ inner_related n env out x Role.function_value ts us h a (suc (suc m)) = rw a.eve
 inner_related n env out x Role.function_named ts us h a zero = x
 inner_related n env out x Role.function_named ts us h a (suc zero) = rw (a.each 1) (related_under n env out x (parameter_names false ts) (names_kid 1 ts h))
 inner_related n env out x Role.function_named ts us h a (suc (suc m)) = rw a.later (related_under n env out x (body_names false ts) (names_rest ts h))
-inner_related n env out x Role.reference ts us h a m = x
-inner_related n env out x Role.bound ts us h a m = x
-inner_related n env out x Role.calls ts us h a m = x
-inner_related n env out x Role.member ts us h a m = x
-inner_related n env out x Role.all_kids ts us h a m = x
-inner_related n env out x Role.first_kid ts us h a m = x
-inner_related n env out x Role.imports ts us h a m = x
-inner_related n env out x Role.exports_declaration ts us h a m = x
-inner_related n env out x Role.other ts us h a m = x
+inner_related n env out x r ts us h a m = x
 
 -- a reference as it is written declares nothing
 pub quiet : (env : Env) (x : Text) → declared (written env x) ≡ []

@@ -53,8 +53,8 @@ abbrev local_name : Text → Text → Term
 local_name d x = node Kind.Local (d ∷ x ∷ []) none
 
 -- a module without statements
-abbrev pub no_module : Term
-no_module = program_of none
+abbrev pub empty_module : Term
+empty_module = program_of none
 
 -- __vite_ssr_import_0__;
 abbrev pub names_no_request : Term
@@ -76,10 +76,10 @@ pub record Examples : Type 0 where
   }
   pub renames_runs : run renames ≡ program_of (more (getter (codes "x") (identifier_of (codes "x"))) (more renames_request (two (x_of (detached (written_member (codes "a"))) (written_member (codes "c"))) (f_of (identifier_of (codes "b"))))))
   pub renames_reads : read_back (run renames) ≡ Some (meaning renames)
-  pub no_module_small : is_small no_module ≡ true
-  pub no_module_means : meaning no_module ≡ record { hashbang = []; directives = none; requests = []; exports = []; statements = none }
-  pub no_module_runs : run no_module ≡ no_module
-  pub no_module_reads : read_back no_module ≡ Some (meaning no_module)
+  pub empty_module_small : is_small empty_module ≡ true
+  pub empty_module_means : meaning empty_module ≡ record { hashbang = []; directives = none; requests = []; exports = []; statements = none }
+  pub empty_module_runs : run empty_module ≡ empty_module
+  pub empty_module_reads : read_back empty_module ≡ Some (meaning empty_module)
   -- an import that is left is not the runner's, nor is one of its names in another place
   pub import_left : read_back calls_import ≡ None
   pub name_left : read_back names_no_request ≡ None
