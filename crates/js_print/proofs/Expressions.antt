@@ -69,32 +69,29 @@ behind_some x xs ps e = rw e refl
 commas_some : (x : Text) (ps qs : List Text) → ps ≡ x ∷ [] → commas (ps ++ qs) ≡ x ++ behind (codes ", ") qs
 commas_some x ps qs e = rw e refl
 
-module _ (c : ℕ) (rest : Text) (sign : goes_on_number c ≡ false) where
-  end_is : not_next goes_on_number (c ∷ rest) ≡ true
-  end_is = rw sign refl
-
-  pub listed_stands : (t : Term) (ts : Terms) → AllClaims (more t ts) → fit expression t ≡ true → fit_each expression ts ≡ true → Listed whole (listing (items (more t ts))) (commas (all_pieces (items (more t ts))) ++ c ∷ rest) (c ∷ rest)
+module _ (rest : Text) (end_is : not_next goes_on_number rest ≡ true) where
+  pub listed_stands : (t : Term) (ts : Terms) → AllClaims (more t ts) → fit expression t ≡ true → fit_each expression ts ≡ true → Listed whole (listing (items (more t ts))) (commas (all_pieces (items (more t ts))) ++ rest) rest
   listed_stands t none g h hs =
       let u : Term = held (is_looser 2) t in
-      moved (λ a. Listed whole (u ∷ []) a (c ∷ rest)) (commas (pieces u ++ []) ++ c ∷ rest) (printed u ++ c ∷ rest)
-          (ap (λ x. x ++ c ∷ rest) (commas_some (printed u) (pieces u) [] (held_piece (is_looser 2) t h) ∙ append-nil (printed u)))
-          (last (held_level 2 (is_looser 2) t (lit≤ tt) (tight 2) h) (held_stands (is_looser 2) t g.0 h (tight 2) (c ∷ rest) (λ n. ends_by t (c ∷ rest) end_is)))
+      moved (λ a. Listed whole (u ∷ []) a rest) (commas (pieces u ++ []) ++ rest) (printed u ++ rest)
+          (ap (λ x. x ++ rest) (commas_some (printed u) (pieces u) [] (held_piece (is_looser 2) t h) ∙ append-nil (printed u)))
+          (last (held_level 2 (is_looser 2) t (lit≤ tt) (tight 2) h) (held_stands (is_looser 2) t g.0 h (tight 2) rest (λ n. ends_by t rest end_is)))
   listed_stands t (more v vs) g h hs =
       let u : Term = held (is_looser 2) t in
       let w : Term = held (is_looser 2) v in
       let hv : fit expression v ≡ true = and_left (fit expression v) (fit_each expression vs) hs in
       let ps : List Text = all_pieces (items (more v vs)) in
       let more_is : ps ≡ printed w ∷ all_pieces (items vs) = ap (λ q. q ++ all_pieces (items vs)) (held_piece (is_looser 2) v hv) in
-      let text_is : commas (pieces u ++ ps) ++ c ∷ rest ≡ printed u ++ 44 ∷ 32 ∷ (commas ps ++ c ∷ rest) =
-          ap (λ x. x ++ c ∷ rest) (commas_some (printed u) (pieces u) ps (held_piece (is_looser 2) t h) ∙ ap (λ x. printed u ++ x) (behind_some (printed w) (all_pieces (items vs)) ps more_is))
-              ∙ append_assoc (printed u) (44 ∷ 32 ∷ commas ps) (c ∷ rest) in
-      moved (λ a. Listed whole (u ∷ listing (items (more v vs))) a (c ∷ rest)) (commas (pieces u ++ ps) ++ c ∷ rest) (printed u ++ 44 ∷ 32 ∷ (commas ps ++ c ∷ rest)) text_is
+      let text_is : commas (pieces u ++ ps) ++ rest ≡ printed u ++ 44 ∷ 32 ∷ (commas ps ++ rest) =
+          ap (λ x. x ++ rest) (commas_some (printed u) (pieces u) ps (held_piece (is_looser 2) t h) ∙ ap (λ x. printed u ++ x) (behind_some (printed w) (all_pieces (items vs)) ps more_is))
+              ∙ append_assoc (printed u) (44 ∷ 32 ∷ commas ps) rest in
+      moved (λ a. Listed whole (u ∷ listing (items (more v vs))) a rest) (commas (pieces u ++ ps) ++ rest) (printed u ++ 44 ∷ 32 ∷ (commas ps ++ rest)) text_is
           (and (held_level 2 (is_looser 2) t (lit≤ tt) (tight 2) h)
-              (held_stands (is_looser 2) t g.0 h (tight 2) (44 ∷ 32 ∷ (commas ps ++ c ∷ rest)) (λ n. ends_by t (44 ∷ 32 ∷ (commas ps ++ c ∷ rest)) refl))
-              (sign_token 44 (32 ∷ (commas ps ++ c ∷ rest)) refl)
+              (held_stands (is_looser 2) t g.0 h (tight 2) (44 ∷ 32 ∷ (commas ps ++ rest)) (λ n. ends_by t (44 ∷ 32 ∷ (commas ps ++ rest)) refl))
+              (sign_token 44 (32 ∷ (commas ps ++ rest)) refl)
               (gap_listed 32 refl (listed_stands v vs g.1 hv (and_right (fit expression v) (fit_each expression vs) hs))))
 
-  pub group_stands : (ts : Terms) → AllClaims ts → fit_each expression ts ≡ true → Group whole (listing (items ts)) (commas (all_pieces (items ts)) ++ c ∷ rest) (c ∷ rest)
+  pub group_stands : (ts : Terms) → AllClaims ts → fit_each expression ts ≡ true → Group whole (listing (items ts)) (commas (all_pieces (items ts)) ++ rest) rest
   group_stands none g h = no_items
   group_stands (more t ts) g h = some_items (listed_stands t ts g (and_left (fit expression t) (fit_each expression ts) h) (and_right (fit expression t) (fit_each expression ts) h))
 
@@ -180,23 +177,23 @@ array_step texts ts g a p rest =
         let cs : Text = commas (all_pieces (items es)) in
         moved (λ b. Stands whole (array_of (items es)) b rest) (91 ∷ ((cs ++ 93 ∷ []) ++ rest)) (91 ∷ (cs ++ 93 ∷ rest)) (ap (λ x. 91 ∷ x) (append_assoc cs (93 ∷ []) rest))
             (subst (λ us. Stands whole (array_of us) (91 ∷ (cs ++ 93 ∷ rest)) rest) (all_listing (items es))
-                (array (sign_token 91 (cs ++ 93 ∷ rest) refl) (group_stands 93 rest refl es k.0 hs) (sign_token 93 rest refl)))
+                (array (sign_token 91 (cs ++ 93 ∷ rest) refl) (group_stands (93 ∷ rest) refl es k.0 hs) (sign_token 93 rest refl)))
 
 -- a sequence has two expressions or more
-pub sequence_step : (texts : List Text) (ts : Terms) → AllClaims ts → no_texts texts ≡ true → fit_places (several Sort.expression ∷ []) ts ≡ true → (c : ℕ) (rest : Text) → goes_on_number c ≡ false → Lists (wrapped (node Kind.SequenceExpression texts ts)) (printed (wrapped (node Kind.SequenceExpression texts ts)) ++ c ∷ rest) (c ∷ rest)
-sequence_step texts ts g a p c rest e =
+pub sequence_step : (texts : List Text) (ts : Terms) → AllClaims ts → no_texts texts ≡ true → fit_places (several Sort.expression ∷ []) ts ≡ true → (rest : Text) → not_next goes_on_number rest ≡ true → Lists (wrapped (node Kind.SequenceExpression texts ts)) (printed (wrapped (node Kind.SequenceExpression texts ts)) ++ rest) rest
+sequence_step texts ts g a p rest e =
     text_none (λ xs. In (node Kind.SequenceExpression xs ts))
         (one_part (λ us. AllClaims us → In (node Kind.SequenceExpression [] us)) (several Sort.expression)
             (λ f hf. several_part (λ v. AllClaims (one v) → In (node Kind.SequenceExpression [] (one v))) Sort.expression of_items f hf) ts p g) texts a
   where
     In : Term → Type 0
-    In t = Lists (wrapped t) (printed (wrapped t) ++ c ∷ rest) (c ∷ rest)
+    In t = Lists (wrapped t) (printed (wrapped t) ++ rest) rest
 
     of_items : (t u : Term) (us : Terms) → fit expression t ≡ true → fit_each expression (more u us) ≡ true → AllClaims (one (list (more t (more u us)))) → In (node Kind.SequenceExpression [] (one (list (more t (more u us)))))
     of_items t u us h hs k = record {
         items = listing (items (more t (more u us)));
         is_joined = ap sequence_of (all_listing (items (more t (more u us))));
-        stand = listed_stands c rest e t (more u us) k.0 h hs
+        stand = listed_stands rest e t (more u us) k.0 h hs
       }
 
 pub call_step : (texts : List Text) (ts : Terms) → AllClaims ts → one_text is_off texts ≡ true → fit_places (expression ∷ many Sort.expression ∷ []) ts ≡ true → (rest : Text) → Standing (node Kind.CallExpression texts ts) rest
@@ -216,7 +213,7 @@ call_step texts ts g a p rest =
             (subst (λ us. Stands whole (call_of w us) (printed w ++ 40 ∷ (cs ++ 41 ∷ rest)) rest) (all_listing (items args))
                 (call (held_level 19 (is_looser 19) f (lit≤ tt) (tight 19) hf)
                     (held_stands (is_looser 19) f k.0 hf looser (40 ∷ (cs ++ 41 ∷ rest)) (λ n. ends_by f (40 ∷ (cs ++ 41 ∷ rest)) refl))
-                    (sign_token 40 (cs ++ 41 ∷ rest) refl) (group_stands 41 rest refl args k.1.0 hs) (sign_token 41 rest refl)))
+                    (sign_token 40 (cs ++ 41 ∷ rest) refl) (group_stands (41 ∷ rest) refl args k.1.0 hs) (sign_token 41 rest refl)))
 
 -- no expression begins with a blank
 

@@ -1,14 +1,15 @@
 -- Each printable module is spelled by its layout.
-use Rattle.std.proofs.Common.{◌≡◌, refl, sym, ◌∙◌, ap, subst, ℕ, suc, ◌≤◌, List, [], ◌∷◌, ◌++◌, Bool, true, false, ◌&&◌, ◌||◌, not, lit≤, append_assoc}
+use Rattle.std.proofs.Common.{◌≡◌, refl, sym, ◌∙◌, ap, subst, ℕ, suc, ◌≤◌, List, [], ◌∷◌, ◌++◌, Bool, true, false, ◌&&◌, ◌||◌, not, cond, nat_eq, nat_lt, lit≤, append_assoc}
 use Rattle.std.proofs.lemmas.List.{append-nil}
+use Rattle.std.proofs.lemmas.Bool.{ltb-false}
 use Rattle.std.specs.Prelude.{codes}
 use Rattle.js_term.specs.Term.{Text, is_text, Kind, Term, absent, list, node, Terms, none, more, one, two, all, strip}
 use Rattle.js_term.specs.Lexeme.{whole, is_word, is_decimal, is_reserved, not_next, goes_on, goes_on_number, opens_otherwise}
-use Rattle.js_term.specs.Node.{binding_of, string_of, object_of, parameters_of, body_of, function_of, const_of, return_of, statement_of, specifier_of, import_declaration_of, export_declaration_of, program_of, parenthesized_of}
-use Rattle.js_term.specs.Spells.{level, joined, is_string_literal, Stands, parenthesized, object, Listed, last, Properties, no_properties, last_property, and_property, Property, Statement, declaration, returns, expression, Declaration, constant, function, Specifier, renamed, unrenamed, Specifiers, last_specifier, and_specifier, Item, statement, imports, exports, Items, no_more_items, next_item, Spells, spells}
+use Rattle.js_term.specs.Node.{name_of, binding_of, string_of, object_of, parameters_of, body_of, function_of, const_of, return_of, statement_of, specifier_of, import_declaration_of, export_declaration_of, program_of, parenthesized_of}
+use Rattle.js_term.specs.Spells.{level, level_first, joined, is_string_literal, Stands, parenthesized, object, Listed, last, Properties, no_properties, last_property, and_property, Property, Statement, declaration, returns, expression, Declaration, constant, function, Specifier, renamed, unrenamed, Specifiers, last_specifier, and_specifier, Item, statement, imports, exports, Items, no_more_items, next_item, Spells, spells}
 use Rattle.js_term.specs.Form.{Sort, Place, one_text, no_texts, two_flags, is_off, is_truth, is_binding_name, is_property, many, some, single, several, empty, is_printable}
 use Rattle.js_term.specs.Form as form
-use Rattle.js_print.specs.Layout.{laid, pieces, all_pieces, printed, commas, separated, braces, lines, renamed_text, is_looser, leads, needs, no_need, in_parentheses, held, held_kids, wrapped, layout}
+use Rattle.js_print.specs.Layout.{laid, pieces, all_pieces, printed, commas, separated, all_escaped, braces, lines, renamed_text, is_looser, leads, needs, no_need, in_parentheses, held, held_kids, wrapped, layout}
 use Rattle.js_print.proofs.Lexemes.{word_token, string_token, sign_token, behind_gap}
 use Rattle.js_print.proofs.Blanks.{gap_listed, gap_property, gap_declaration, gap_specifier, gap_item, gap_stands}
 use Rattle.js_print.proofs.Fit.{differ, and_left, and_right, fit, fit_each, fit_places, one_part, two_parts, three_parts, empty_part, many_part, some_part, single_part, text_alone, text_none}
@@ -28,6 +29,10 @@ property_place = form.one Sort.property
 
 abbrev comma_blank : Text
 comma_blank = codes ", "
+
+abbrev is_sequence : Kind → Bool
+is_sequence Kind.SequenceExpression = true
+is_sequence k = false
 
 -- object literals
 
@@ -221,3 +226,184 @@ fresh_by Kind.ObjectExpression texts ts g h =
     one_part (λ us. Freshly (node Kind.ObjectExpression texts us)) (many Sort.property) (λ f hf. braces_fresh comma_blank (pieces (held no_need f))) ts (and_right (no_texts texts) (fit_places (many Sort.property ∷ []) ts) h)
 fresh_by Kind.SequenceExpression texts ts g h = sequence_fresh texts ts g (and_right (no_texts texts) (fit_places (several Sort.expression ∷ []) ts) h)
 fresh_by k texts ts g h = differ (sym h)
+
+-- only a sequence is looser than an item of a list
+tight_by : (k : Kind) (texts : List Text) (ts : Terms) → is_sequence k ≡ false → is_looser 2 (wrapped (node k texts ts)) ≡ false
+tight_by Kind.SequenceExpression texts ts h = differ h
+tight_by Kind.StaticMemberExpression texts ts h = by (nat_eq (level_first (held_kids (needs Kind.StaticMemberExpression) ts)) 19)
+  where
+    by : (b : Bool) → nat_lt (cond b 19 20) 2 ≡ false
+    by true = refl
+    by false = refl
+tight_by k texts ts h = refl
+
+lists_by : (k : Kind) (texts : List Text) (ts : Terms) → AllClaims ts → fit expression_place (node k texts ts) ≡ true → (rest : Text) → ends (node k texts ts) rest ≡ true → (b : Bool) → is_sequence k ≡ b → Lists (wrapped (node k texts ts)) (printed (wrapped (node k texts ts)) ++ rest) rest
+lists_by k texts ts g h rest e false l =
+    let t : is_looser 2 (wrapped (node k texts ts)) ≡ false = tight_by k texts ts l in
+    record { items = wrapped (node k texts ts) ∷ []; is_joined = refl; stand = last (ltb-false (level (wrapped (node k texts ts))) 2 t) (stands_by k texts ts g h t rest e) }
+lists_by Kind.SequenceExpression texts ts g h rest e true l = sequence_step texts ts g (and_left (no_texts texts) (fit_places (several Sort.expression ∷ []) ts) h) (and_right (no_texts texts) (fit_places (several Sort.expression ∷ []) ts) h) rest e
+lists_by k texts ts g h rest e true l = differ (sym l)
+
+declares_by : (k : Kind) (texts : List Text) (ts : Terms) → AllClaims ts → fit (form.one Sort.declaration) (node k texts ts) ≡ true → (rest : Text) → DeclarationStands (node k texts ts) rest
+declares_by Kind.VariableDeclaration texts ts g h rest = variables_step texts ts g (and_left (one_text (λ x. is_text x (codes "const")) texts) (fit_places (single Sort.declarator ∷ []) ts) h) (and_right (one_text (λ x. is_text x (codes "const")) texts) (fit_places (single Sort.declarator ∷ []) ts) h) rest
+declares_by Kind.FunctionDeclaration texts ts g h rest = function_step texts ts g (and_left (two_flags texts) (fit_places (form.one Sort.binding ∷ form.one Sort.parameters ∷ form.one Sort.function_body ∷ []) ts) h) (and_right (two_flags texts) (fit_places (form.one Sort.binding ∷ form.one Sort.parameters ∷ form.one Sort.function_body ∷ []) ts) h) rest
+declares_by k texts ts g h rest = differ (sym h)
+
+states_by : (k : Kind) (texts : List Text) (ts : Terms) → AllClaims ts → fit statement_place (node k texts ts) ≡ true → (rest : Text) → StatementStands (node k texts ts) rest
+states_by Kind.ReturnStatement texts ts g h rest = return_step texts ts g (and_left (no_texts texts) (fit_places (expression_place ∷ []) ts) h) (and_right (no_texts texts) (fit_places (expression_place ∷ []) ts) h) rest
+states_by Kind.ExpressionStatement texts ts g h rest = effect_step texts ts g (and_left (no_texts texts) (fit_places (form.one Sort.effect ∷ []) ts) h) (and_right (no_texts texts) (fit_places (form.one Sort.effect ∷ []) ts) h) rest
+states_by Kind.VariableDeclaration texts ts g h rest = declaration (declares_by Kind.VariableDeclaration texts ts g h rest)
+states_by Kind.FunctionDeclaration texts ts g h rest = declaration (declares_by Kind.FunctionDeclaration texts ts g h rest)
+states_by k texts ts g h rest = differ (sym h)
+
+mutual
+  claims : (t : Term) → Claims t
+  claims absent = tt
+  claims (list ts) = all_claims ts
+  claims (node k texts ts) =
+      let g : AllClaims ts = all_claims ts in
+      (record {
+        stands = stands_by k texts ts g;
+        lists = λ h rest e. lists_by k texts ts g h rest e (is_sequence k) refl;
+        fresh = fresh_by k texts ts g;
+        states = states_by k texts ts g;
+        declares = declares_by k texts ts g
+      }, g)
+
+  all_claims : (ts : Terms) → AllClaims ts
+  all_claims none = tt
+  all_claims (more t ts) = (claims t, all_claims ts)
+
+-- imports
+
+specifier_stands : (t : Term) → fit (form.one Sort.specifier) t ≡ true → (rest : Text) → not_next goes_on rest ≡ true → Specifier whole (wrapped t) (printed (wrapped t) ++ rest) rest
+specifier_stands absent h rest e = differ (sym h)
+specifier_stands (list ts) h rest e = differ (sym h)
+specifier_stands (node Kind.ImportSpecifier texts ts) h rest e =
+    text_none (λ xs. S (node Kind.ImportSpecifier xs ts))
+        (two_parts (λ us. S (node Kind.ImportSpecifier [] us)) (form.one Sort.name) (form.one Sort.binding)
+            (λ t u ht hu. name_alone (λ v. S (node Kind.ImportSpecifier [] (two v u))) (λ x w. binding_alone (λ v. S (node Kind.ImportSpecifier [] (two (name_of x) v))) (λ y v r. of_names x y w v r (is_text x y) refl) u hu) t ht) ts
+            (and_right (no_texts texts) (fit_places (form.one Sort.name ∷ form.one Sort.binding ∷ []) ts) h)) texts (and_left (no_texts texts) (fit_places (form.one Sort.name ∷ form.one Sort.binding ∷ []) ts) h)
+  where
+    S : Term → Type 0
+    S t = Specifier whole (wrapped t) (printed (wrapped t) ++ rest) rest
+
+    of_names : (x y : Text) → is_word x ≡ true → is_word y ≡ true → is_reserved y ≡ false → (b : Bool) → is_text x y ≡ b → S (specifier_of x y)
+    of_names x y w v r true q =
+        let p : x ≡ y = text_same x y q in
+        moved (λ a. Specifier whole (specifier_of x y) a rest) (renamed_text x y ++ rest) (x ++ rest) (rw q refl)
+            (subst (λ z. Specifier whole (specifier_of x z) (x ++ rest) rest) p (unrenamed (subst (λ z. is_reserved z ≡ false) (sym p) r) (word_token x rest w e)))
+    of_names x y w v r false q =
+        moved (λ a. Specifier whole (specifier_of x y) a rest) (renamed_text x y ++ rest) (x ++ 32 ∷ (codes "as" ++ 32 ∷ (y ++ rest))) (rw q (append_assoc x (32 ∷ (codes "as" ++ 32 ∷ y)) rest))
+            (renamed r (word_token x (32 ∷ (codes "as" ++ 32 ∷ (y ++ rest))) w refl) (behind_gap 32 refl (word_token (codes "as") (32 ∷ (y ++ rest)) refl refl)) (behind_gap 32 refl (word_token y rest v e)))
+specifier_stands (node k texts ts) h rest e = differ (sym h)
+
+specifier_place : Place
+specifier_place = form.one Sort.specifier
+
+gap_specifiers : {s : Term} {ss : List Term} {a b : Text} → Specifiers whole (s ∷ ss) a b → Specifiers whole (s ∷ ss) (32 ∷ a) b
+gap_specifiers (last_specifier s) = last_specifier (gap_specifier 32 refl s)
+gap_specifiers (and_specifier s t ss) = and_specifier (gap_specifier 32 refl s) t ss
+
+specifiers_stand : (t : Term) (ts : Terms) → fit (form.one Sort.specifier) t ≡ true → fit_each (form.one Sort.specifier) ts ≡ true → (rest : Text) → Specifiers whole (listing (plainly (more t ts))) (commas (all_pieces (plainly (more t ts))) ++ 32 ∷ rest) (32 ∷ rest)
+specifiers_stand t none h hs rest =
+    moved (λ a. Specifiers whole (wrapped t ∷ []) a (32 ∷ rest)) (commas (pieces (wrapped t) ++ []) ++ 32 ∷ rest) (printed (wrapped t) ++ 32 ∷ rest)
+        (first_of_one comma_blank (printed (wrapped t)) (pieces (wrapped t)) (32 ∷ rest) (node_piece Sort.specifier no_need t h))
+        (last_specifier (specifier_stands t h (32 ∷ rest) refl))
+specifiers_stand t (more v vs) h hs rest =
+    let hv : fit (form.one Sort.specifier) v ≡ true = and_left (fit (form.one Sort.specifier) v) (fit_each (form.one Sort.specifier) vs) hs in
+    let ps : List Text = all_pieces (plainly (more v vs)) in
+    let ps_is : ps ≡ printed (wrapped v) ∷ all_pieces (plainly vs) = ap (λ q. q ++ all_pieces (plainly vs)) (node_piece Sort.specifier no_need v hv) in
+    moved (λ a. Specifiers whole (listing (plainly (more t (more v vs)))) a (32 ∷ rest)) (commas (pieces (wrapped t) ++ ps) ++ 32 ∷ rest) (printed (wrapped t) ++ 44 ∷ 32 ∷ (commas ps ++ 32 ∷ rest))
+        (first_of_more comma_blank (printed (wrapped t)) (printed (wrapped v)) (pieces (wrapped t)) ps (all_pieces (plainly vs)) (32 ∷ rest) (node_piece Sort.specifier no_need t h) ps_is)
+        (and_specifier (specifier_stands t h (44 ∷ 32 ∷ (commas ps ++ 32 ∷ rest)) refl) (sign_token 44 (32 ∷ (commas ps ++ 32 ∷ rest)) refl)
+            (gap_specifiers (specifiers_stand v vs hv (and_right (fit (form.one Sort.specifier) v) (fit_each (form.one Sort.specifier) vs) hs) rest)))
+
+-- the items of a module
+
+abbrev ItemStands : Term → Text → Type 0
+ItemStands t rest = Item whole (wrapped t) (printed (wrapped t) ++ rest) rest
+
+import_step : (texts : List Text) (ts : Terms) → no_texts texts ≡ true → fit_places (some Sort.specifier ∷ form.one Sort.source ∷ []) ts ≡ true → (rest : Text) → ItemStands (node Kind.ImportDeclaration texts ts) rest
+import_step texts ts a p rest =
+    text_none (λ xs. ItemStands (node Kind.ImportDeclaration xs ts) rest)
+        (two_parts (λ us. ItemStands (node Kind.ImportDeclaration [] us) rest) (some Sort.specifier) (form.one Sort.source)
+            (λ t u ht hu. source_alone (λ v. ItemStands (node Kind.ImportDeclaration [] (two t v)) rest) (λ x. some_part (λ v. ItemStands (node Kind.ImportDeclaration [] (two v (string_of x))) rest) Sort.specifier (λ s ss hs hss. of_specifiers x s ss hs hss) t ht) u hu) ts p) texts a
+  where
+    of_specifiers : (x : Text) (s : Term) (ss : Terms) → fit (form.one Sort.specifier) s ≡ true → fit_each (form.one Sort.specifier) ss ≡ true → ItemStands (import_declaration_of (more s ss) x) rest
+    of_specifiers x s ss hs hss =
+        let cs : Text = commas (all_pieces (plainly (more s ss))) in
+        let source : Text = 39 ∷ (all_escaped x ++ 39 ∷ []) in
+        let last_text : Text = source ++ 59 ∷ rest in
+        let text_is : (cs ++ 32 ∷ 125 ∷ 32 ∷ (codes "from" ++ 32 ∷ (source ++ 59 ∷ []))) ++ rest ≡ cs ++ 32 ∷ 125 ∷ 32 ∷ (codes "from" ++ 32 ∷ last_text) =
+            append_assoc cs (32 ∷ 125 ∷ 32 ∷ (codes "from" ++ 32 ∷ (source ++ 59 ∷ []))) rest ∙ ap (λ y. cs ++ 32 ∷ 125 ∷ 32 ∷ (codes "from" ++ 32 ∷ y)) (append_assoc source (59 ∷ []) rest) in
+        let whole_text : Text = codes "import" ++ 32 ∷ 123 ∷ 32 ∷ (cs ++ 32 ∷ 125 ∷ 32 ∷ (codes "from" ++ 32 ∷ last_text)) in
+        moved (λ b. Item whole (import_declaration_of (plainly (more s ss)) x) b rest) (codes "import" ++ 32 ∷ 123 ∷ 32 ∷ ((cs ++ 32 ∷ 125 ∷ 32 ∷ (codes "from" ++ 32 ∷ (source ++ 59 ∷ []))) ++ rest)) whole_text (ap (λ y. codes "import" ++ 32 ∷ 123 ∷ 32 ∷ y) text_is)
+            (subst (λ us. Item whole (import_declaration_of us x) whole_text rest) (all_listing (plainly (more s ss)))
+                (imports (word_token (codes "import") (32 ∷ 123 ∷ 32 ∷ (cs ++ 32 ∷ 125 ∷ 32 ∷ (codes "from" ++ 32 ∷ last_text))) refl refl)
+                    (behind_gap 32 refl (sign_token 123 (32 ∷ (cs ++ 32 ∷ 125 ∷ 32 ∷ (codes "from" ++ 32 ∷ last_text))) refl))
+                    (gap_specifiers (specifiers_stand s ss hs hss (125 ∷ 32 ∷ (codes "from" ++ 32 ∷ last_text))))
+                    (behind_gap 32 refl (sign_token 125 (32 ∷ (codes "from" ++ 32 ∷ last_text)) refl))
+                    (behind_gap 32 refl (word_token (codes "from") (32 ∷ last_text) refl refl))
+                    (behind_gap 32 refl (string_token x (59 ∷ rest)))
+                    (sign_token 59 rest refl)))
+
+export_step : (texts : List Text) (ts : Terms) → no_texts texts ≡ true → fit_places (form.one Sort.declaration ∷ []) ts ≡ true → (rest : Text) → ItemStands (node Kind.ExportDeclaration texts ts) rest
+export_step texts ts a p rest =
+    text_none (λ xs. ItemStands (node Kind.ExportDeclaration xs ts) rest)
+        (one_part (λ us. ItemStands (node Kind.ExportDeclaration [] us) rest) (form.one Sort.declaration)
+            (λ d h. exports (word_token (codes "export") (32 ∷ (printed (wrapped d) ++ rest)) refl refl) (gap_declaration 32 refl ((claim_of Sort.declaration d (claims d) h).declares h rest))) ts p) texts a
+
+item_by : (k : Kind) (texts : List Text) (ts : Terms) → fit item_place (node k texts ts) ≡ true → (rest : Text) → ItemStands (node k texts ts) rest
+item_by Kind.ImportDeclaration texts ts h rest = import_step texts ts (and_left (no_texts texts) (fit_places (some Sort.specifier ∷ form.one Sort.source ∷ []) ts) h) (and_right (no_texts texts) (fit_places (some Sort.specifier ∷ form.one Sort.source ∷ []) ts) h) rest
+item_by Kind.ExportDeclaration texts ts h rest = export_step texts ts (and_left (no_texts texts) (fit_places (form.one Sort.declaration ∷ []) ts) h) (and_right (no_texts texts) (fit_places (form.one Sort.declaration ∷ []) ts) h) rest
+item_by Kind.ExpressionStatement texts ts h rest = statement (states_by Kind.ExpressionStatement texts ts (all_claims ts) h rest)
+item_by Kind.VariableDeclaration texts ts h rest = statement (states_by Kind.VariableDeclaration texts ts (all_claims ts) h rest)
+item_by Kind.FunctionDeclaration texts ts h rest = statement (states_by Kind.FunctionDeclaration texts ts (all_claims ts) h rest)
+item_by k texts ts h rest = differ (sym h)
+
+item_stands : (t : Term) → fit item_place t ≡ true → (rest : Text) → ItemStands t rest
+item_stands absent h rest = differ (sym h)
+item_stands (list ts) h rest = differ (sym h)
+item_stands (node k texts ts) h rest = item_by k texts ts h rest
+
+lines_more : (t : Term) (ps : List Text) → fit item_place t ≡ true → lines (pieces (wrapped t) ++ ps) ≡ printed (wrapped t) ++ 10 ∷ lines ps
+lines_more t ps h = ap (λ q. lines (q ++ ps)) (node_piece Sort.item no_need t h)
+
+-- items behind the line feed of the one before
+items_stand : (ts : Terms) → fit_each item_place ts ≡ true → Items whole (listing (plainly ts)) (10 ∷ lines (all_pieces (plainly ts))) (10 ∷ [])
+items_stand none h = no_more_items
+items_stand (more t ts) h =
+    let ht : fit item_place t ≡ true = and_left (fit item_place t) (fit_each item_place ts) h in
+    let ps : List Text = all_pieces (plainly ts) in
+    moved (λ a. Items whole (wrapped t ∷ listing (plainly ts)) (10 ∷ a) (10 ∷ [])) (lines (pieces (wrapped t) ++ ps)) (printed (wrapped t) ++ 10 ∷ lines ps) (lines_more t ps ht)
+        (next_item (gap_item 10 refl (item_stands t ht (10 ∷ lines ps))) (items_stand ts (and_right (fit item_place t) (fit_each item_place ts) h)))
+
+-- the tree that a printed text spells: the tree with its parentheses
+abbrev pub Spelled : Term → Type 0
+Spelled t = Spells whole (layout t) (wrapped t)
+
+items_spell : (ts : Terms) → fit_each item_place ts ≡ true → Spelled (program_of ts)
+items_spell none h = spells {ss = []} no_more_items refl
+items_spell (more t ts) h =
+    let ht : fit item_place t ≡ true = and_left (fit item_place t) (fit_each item_place ts) h in
+    let ps : List Text = all_pieces (plainly ts) in
+    moved (λ a. Spells whole a (program_of (plainly (more t ts)))) (lines (pieces (wrapped t) ++ ps)) (printed (wrapped t) ++ 10 ∷ lines ps) (lines_more t ps ht)
+        (subst (λ us. Spells whole (printed (wrapped t) ++ 10 ∷ lines ps) (program_of us)) (all_listing (plainly (more t ts)))
+            (spells (next_item (item_stands t ht (10 ∷ lines ps)) (items_stand ts (and_right (fit item_place t) (fit_each item_place ts) h))) refl))
+
+program_spells : (k : Kind) (texts : List Text) (ts : Terms) → fit (form.one Sort.program) (node k texts ts) ≡ true → Spelled (node k texts ts)
+program_spells Kind.Program texts ts h =
+    text_none (λ xs. Spelled (node Kind.Program xs ts))
+        (two_parts (λ us. Spelled (node Kind.Program [] us)) empty (many Sort.item)
+            (λ t u ht hu. empty_part (λ v. Spelled (node Kind.Program [] (two v u))) (many_part (λ v. Spelled (node Kind.Program [] (two (list none) v))) Sort.item items_spell u hu) t ht) ts
+            (and_right (no_texts texts) (fit_places (empty ∷ many Sort.item ∷ []) ts) h)) texts (and_left (no_texts texts) (fit_places (empty ∷ many Sort.item ∷ []) ts) h)
+program_spells k texts ts h = differ (sym h)
+
+pub layout_spells : (t : Term) → is_printable t ≡ true → Spelled t
+layout_spells absent h = differ (sym h)
+layout_spells (list ts) h = differ (sym h)
+layout_spells (node k texts ts) h = program_spells k texts ts h
+
+pub wrapped_same : (t : Term) → strip (wrapped t) ≡ strip t
+wrapped_same t = strip_held no_need t
