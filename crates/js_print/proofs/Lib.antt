@@ -8,3 +8,6 @@ pub mod Expressions
 pub mod Statements
 pub mod Modules
 pub mod Whole
+pub mod Levelled
+pub mod Characters
+pub mod Rows

@@ -1,7 +1,8 @@
 -- The layout of a printed module, and where parentheses are put.
-use Rattle.std.specs.Prelude.{ℕ, zero, suc, List, [], ◌∷◌, ◌++◌, Bool, true, false, cond, not, ◌&&◌, ◌||◌, if◌then◌else◌, nat_eq, nat_lt, codes}
-use Rattle.js_term.specs.Term.{Text, is_text, Kind, Term, absent, list, node, Terms, none, more, first}
-use Rattle.js_term.specs.Spells.{level, is_string_literal}
+use Rattle.std.specs.Prelude.{◌≡◌, ℕ, zero, suc, List, [], ◌∷◌, ◌++◌, Bool, true, false, cond, not, ◌&&◌, ◌||◌, if◌then◌else◌, nat_eq, nat_lt, codes}
+use Rattle.js_term.specs.Term.{Text, is_text, Kind, Term, absent, list, node, Terms, none, more, first, strip}
+use Rattle.js_term.specs.Lexeme.{whole}
+use Rattle.js_term.specs.Spells.{level, is_string_literal, Spells}
 use Rattle.js_term.specs.Node.{parenthesized_of}
 
 -- a character of a string as it is printed between single quotes
@@ -115,6 +116,7 @@ is_number t = false
 -- whether the text of an expression begins with `{` or `function`
 abbrev pub leads_by : Kind → Bool → Bool
 leads_by Kind.ObjectExpression b = true
+leads_by Kind.FunctionDeclaration b = true
 leads_by Kind.FunctionExpression b = true
 leads_by Kind.CallExpression b = b
 leads_by Kind.StaticMemberExpression b = b
@@ -169,3 +171,18 @@ wrapped = held no_need
 -- the text of a module
 abbrev pub layout : Term → Text
 layout t = printed (wrapped t)
+
+-- an expression at a place of a level
+abbrev pub at_level : ℕ → Term → Text
+at_level n t = printed (held (is_looser n) t)
+
+-- what stands before an item of a list, by its number
+abbrev pub lead : Text → ℕ → Text
+lead separator zero = []
+lead separator (suc n) = separator
+
+-- what a printed text has to do with the tree that it was printed from: it spells that tree with its parentheses
+pub record IsPrinted (t : Term) (text : Text) : Type 0 where
+  pub module_written : Term
+  pub spelled : Spells whole text module_written
+  pub same : strip module_written ≡ strip t

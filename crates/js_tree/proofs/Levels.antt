@@ -1,6 +1,6 @@
 -- The term of a tree by its first level: one equation for each variant and each struct, so that nobody above names a
 -- generated fold.
-use Rattle.std.proofs.Common.{◌≡◌, refl, ap, ◌∙◌, List, [], ◌∷◌, Option, None, Some, map, codes}
+use Rattle.std.proofs.Common.{◌≡◌, refl, sym, subst, ap, ◌∙◌, List, [], ◌∷◌, Option, None, Some, map, codes}
 use Rattle.std.specs.Prelude.{option_map}
 use Rattle.js_term.specs.Term.{Text, Term, Kind, absent, list, node, Terms, none, more, one, two, all, maybe, flag}
 use Rattle.js_tree.specs.TermOf.{itself, name_term, reference_term, binding_term, string_term, number_term, boolean_term, pattern_term, parameters_term, import_term, variable_word, property_texts, call_term, member_term, sequence_term, await_term, array_term, property_term, object_term, parenthesized_term, body_term, variables_term, return_term, effect_term, export_term, function_word, expression_level, declaration_level, statement_level, function_level, declarator_level, expression_step, declaration_step, statement_step, function_step, declarator_step, expression_term, declaration_term, statement_term, function_term, declarator_term}
@@ -180,3 +180,43 @@ function_parts n = function_out n
 
 pub declarator_parts : (n : VariableDeclarator) → declarator_term n ≡ node Kind.VariableDeclarator [] (two (pattern_term n.id) (maybe (option_map expression_term n.init)))
 declarator_parts n = declarator_out n
+
+-- every tree is a node: what holds of nodes holds of its term
+
+function_node : (C : Term → Type 0) → ((k : Kind) (texts : List Text) (ts : Terms) → C (node k texts ts)) → (n : Function) → C (function_term n)
+function_node C f n = subst C (sym (function_parts n)) (f (function_word n.kind) (flag n.is_async (codes "async") ∷ flag n.is_generator (codes "*") ∷ []) (more (maybe (option_map binding_term n.id)) (two (parameters_term n.params) (body_term statement_term n.body))))
+
+expression_by : (C : Term → Type 0) → ((k : Kind) (texts : List Text) (ts : Terms) → C (node k texts ts)) → (x : Expression-F Expression Declaration Statement Function VariableDeclarator) → C (expression_level expression_term declaration_term statement_term function_term declarator_term x)
+expression_by C f (Expression-F.BooleanLiteral n) = f _ _ _
+expression_by C f (Expression-F.NumericLiteral n) = f _ _ _
+expression_by C f (Expression-F.StringLiteral n) = f _ _ _
+expression_by C f (Expression-F.Identifier n) = f _ _ _
+expression_by C f (Expression-F.ArrayExpression n) = f _ _ _
+expression_by C f (Expression-F.AwaitExpression n) = f _ _ _
+expression_by C f (Expression-F.CallExpression n) = f _ _ _
+expression_by C f (Expression-F.FunctionExpression n) = function_node C f n
+expression_by C f (Expression-F.ObjectExpression n) = f _ _ _
+expression_by C f (Expression-F.ParenthesizedExpression n) = f _ _ _
+expression_by C f (Expression-F.SequenceExpression n) = f _ _ _
+expression_by C f (Expression-F.StaticMemberExpression n) = f _ _ _
+
+pub expression_node : (C : Term → Type 0) → ((k : Kind) (texts : List Text) (ts : Terms) → C (node k texts ts)) → (e : Expression) → C (expression_term e)
+expression_node C f e = subst C (sym (expression_out e)) (expression_by C f (out-Expression e))
+
+statement_by : (C : Term → Type 0) → ((k : Kind) (texts : List Text) (ts : Terms) → C (node k texts ts)) → (x : Statement-F Expression Declaration Statement Function VariableDeclarator) → C (statement_level expression_term declaration_term statement_term function_term declarator_term x)
+statement_by C f (Statement-F.ExpressionStatement n) = f _ _ _
+statement_by C f (Statement-F.ReturnStatement n) = f _ _ _
+statement_by C f (Statement-F.Statement::VariableDeclaration n) = f _ _ _
+statement_by C f (Statement-F.Statement::FunctionDeclaration n) = function_node C f n
+statement_by C f (Statement-F.ImportDeclaration n) = f _ _ _
+statement_by C f (Statement-F.ExportDeclaration n) = f _ _ _
+
+pub statement_node : (C : Term → Type 0) → ((k : Kind) (texts : List Text) (ts : Terms) → C (node k texts ts)) → (s : Statement) → C (statement_term s)
+statement_node C f s = subst C (sym (statement_out s)) (statement_by C f (out-Statement s))
+
+declaration_by : (C : Term → Type 0) → ((k : Kind) (texts : List Text) (ts : Terms) → C (node k texts ts)) → (x : Declaration-F Expression Declaration Statement Function VariableDeclarator) → C (declaration_level expression_term declaration_term statement_term function_term declarator_term x)
+declaration_by C f (Declaration-F.Declaration::VariableDeclaration n) = f _ _ _
+declaration_by C f (Declaration-F.Declaration::FunctionDeclaration n) = function_node C f n
+
+pub declaration_node : (C : Term → Type 0) → ((k : Kind) (texts : List Text) (ts : Terms) → C (node k texts ts)) → (d : Declaration) → C (declaration_term d)
+declaration_node C f d = subst C (sym (declaration_out d)) (declaration_by C f (out-Declaration d))
