@@ -11,3 +11,4 @@ pub mod Whole
 pub mod Levelled
 pub mod Characters
 pub mod Rows
+pub mod StatementRows

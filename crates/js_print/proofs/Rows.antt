@@ -45,14 +45,14 @@ node_piece need k texts ts = by (need (node k texts (held_kids (needs k) ts)))
     by true = refl
     by false = refl
 
-pieces_each : {A : Type 0} (f : A → Term) (need : Term → Bool) → ((a : A) → pieces (held need (f a)) ≡ printed (held need (f a)) ∷ []) → (xs : List A) → all_pieces (held_kids (λ n. need) (all (map f xs))) ≡ map (λ a. printed (held need (f a))) xs
+pub pieces_each : {A : Type 0} (f : A → Term) (need : Term → Bool) → ((a : A) → pieces (held need (f a)) ≡ printed (held need (f a)) ∷ []) → (xs : List A) → all_pieces (held_kids (λ n. need) (all (map f xs))) ≡ map (λ a. printed (held need (f a))) xs
 pieces_each f need p [] = refl
 pieces_each f need p (x ∷ xs) = rw (p x, pieces_each f need p xs) refl
 
 expressions_pieces : (need : Term → Bool) (xs : List Expression) → all_pieces (held_kids (λ n. need) (all (map expression_term xs))) ≡ map (λ e. printed (held need (expression_term e))) xs
 expressions_pieces need = pieces_each expression_term need (expression_node (λ t. pieces (held need t) ≡ printed (held need t) ∷ []) (node_piece need))
 
-statements_pieces : (xs : List Statement) → all_pieces (held_kids (λ n. no_need) (all (map statement_term xs))) ≡ map (λ s. printed (wrapped (statement_term s))) xs
+pub statements_pieces : (xs : List Statement) → all_pieces (held_kids (λ n. no_need) (all (map statement_term xs))) ≡ map (λ s. printed (wrapped (statement_term s))) xs
 statements_pieces = pieces_each statement_term no_need (statement_node (λ t. pieces (held no_need t) ≡ printed (held no_need t) ∷ []) (node_piece no_need))
 
 -- one more item behind a separator
