@@ -53,4 +53,4 @@ all_escaped-append (x ∷ xs) ys = ap (λ l. escaped x ++ l) (all_escaped-append
 pub one_character_more : (out new start ys : List ℕ) (c : ℕ) → out ≡ start ++ 39 ∷ all_escaped (encodes ys) → new ≡ out ++ all_escaped (encode c) → new ≡ start ++ 39 ∷ all_escaped (encodes (ys ++ c ∷ []))
 one_character_more out new start ys c p q =
     q ∙ ap (λ x. x ++ all_escaped (encode c)) p ∙ append_assoc start (39 ∷ all_escaped (encodes ys)) (all_escaped (encode c))
-        ∙ ap (λ x. start ++ 39 ∷ x) (sym (all_escaped-append (encodes ys) (encode c)) ∙ ap all_escaped (ap (λ x. encodes ys ++ x) (sym (append-nil (encode c))) ∙ sym (encodes-append ys (c ∷ []))))
+    ∙ ap (λ x. start ++ 39 ∷ x) (sym (all_escaped-append (encodes ys) (encode c)) ∙ ap all_escaped (ap (λ x. encodes ys ++ x) (sym (append-nil (encode c))) ∙ sym (encodes-append ys (c ∷ []))))

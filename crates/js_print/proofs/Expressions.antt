@@ -28,18 +28,18 @@ or_right false b h = h
 pub identifier_step : (texts : List Text) (ts : Terms) → one_text is_binding_name texts ≡ true → fit_places [] ts ≡ true → (rest : Text) → not_next goes_on rest ≡ true → Standing (node Kind.Identifier texts ts) rest
 identifier_step texts ts a p rest e =
     text_alone (λ xs. Standing (node Kind.Identifier xs ts) rest) is_binding_name
-        (λ x h. no_parts (λ us. Standing (node Kind.Identifier (x ∷ []) us) rest)
-            (identifier (true_not (is_reserved x) (and_right (is_word x) (not (is_reserved x)) h)) (word_token x rest (and_left (is_word x) (not (is_reserved x)) h) e)) ts p) texts a
+    (λ x h. no_parts (λ us. Standing (node Kind.Identifier (x ∷ []) us) rest)
+    (identifier (true_not (is_reserved x) (and_right (is_word x) (not (is_reserved x)) h)) (word_token x rest (and_left (is_word x) (not (is_reserved x)) h) e)) ts p) texts a
 
 pub string_step : (texts : List Text) (ts : Terms) → one_text (λ x. true) texts ≡ true → fit_places [] ts ≡ true → (rest : Text) → Standing (node Kind.StringLiteral texts ts) rest
 string_step texts ts a p rest =
     text_alone (λ xs. Standing (node Kind.StringLiteral xs ts) rest) (λ x. true)
-        (λ x h. no_parts (λ us. Standing (node Kind.StringLiteral (x ∷ []) us) rest) (string_literal (string_token x rest)) ts p) texts a
+    (λ x h. no_parts (λ us. Standing (node Kind.StringLiteral (x ∷ []) us) rest) (string_literal (string_token x rest)) ts p) texts a
 
 pub number_step : (texts : List Text) (ts : Terms) → one_text is_decimal texts ≡ true → fit_places [] ts ≡ true → (rest : Text) → not_next goes_on_number rest ≡ true → Standing (node Kind.NumericLiteral texts ts) rest
 number_step texts ts a p rest e =
     text_alone (λ xs. Standing (node Kind.NumericLiteral xs ts) rest) is_decimal
-        (λ x h. no_parts (λ us. Standing (node Kind.NumericLiteral (x ∷ []) us) rest) (numeric (number_token x rest h e)) ts p) texts a
+    (λ x h. no_parts (λ us. Standing (node Kind.NumericLiteral (x ∷ []) us) rest) (numeric (number_token x rest h e)) ts p) texts a
 
 truth_cases : (C : Text → Type 0) → C (codes "true") → C (codes "false") → (x : Text) → is_truth x ≡ true → C x
 truth_cases C t f x h = by (is_text x (codes "true")) refl (is_text x (codes "false")) refl h
@@ -52,8 +52,8 @@ truth_cases C t f x h = by (is_text x (codes "true")) refl (is_text x (codes "fa
 pub boolean_step : (texts : List Text) (ts : Terms) → one_text is_truth texts ≡ true → fit_places [] ts ≡ true → (rest : Text) → not_next goes_on rest ≡ true → Standing (node Kind.BooleanLiteral texts ts) rest
 boolean_step texts ts a p rest e =
     text_alone (λ xs. Standing (node Kind.BooleanLiteral xs ts) rest) is_truth
-        (λ x h. no_parts (λ us. Standing (node Kind.BooleanLiteral (x ∷ []) us) rest)
-            (truth_cases (λ y. Standing (node Kind.BooleanLiteral (y ∷ []) none) rest) (boolean true (word_token (codes "true") rest refl e)) (boolean false (word_token (codes "false") rest refl e)) x h) ts p) texts a
+    (λ x h. no_parts (λ us. Standing (node Kind.BooleanLiteral (x ∷ []) us) rest)
+    (truth_cases (λ y. Standing (node Kind.BooleanLiteral (y ∷ []) none) rest) (boolean true (word_token (codes "true") rest refl e)) (boolean false (word_token (codes "false") rest refl e)) x h) ts p) texts a
 
 -- lists of expressions with commas between, before a byte that is a sign
 
@@ -74,8 +74,8 @@ module _ (rest : Text) (end_is : not_next goes_on_number rest ≡ true) where
   listed_stands t none g h hs =
       let u : Term = held (is_looser 2) t in
       moved (λ a. Listed whole (u ∷ []) a rest) (commas (pieces u ++ []) ++ rest) (printed u ++ rest)
-          (ap (λ x. x ++ rest) (commas_some (printed u) (pieces u) [] (held_piece (is_looser 2) t h) ∙ append-nil (printed u)))
-          (last (held_level 2 (is_looser 2) t (lit≤ tt) (tight 2) h) (held_stands (is_looser 2) t g.0 h (tight 2) rest (λ n. ends_by t rest end_is)))
+      (ap (λ x. x ++ rest) (commas_some (printed u) (pieces u) [] (held_piece (is_looser 2) t h) ∙ append-nil (printed u)))
+      (last (held_level 2 (is_looser 2) t (lit≤ tt) (tight 2) h) (held_stands (is_looser 2) t g.0 h (tight 2) rest (λ n. ends_by t rest end_is)))
   listed_stands t (more v vs) g h hs =
       let u : Term = held (is_looser 2) t in
       let w : Term = held (is_looser 2) v in
@@ -83,13 +83,13 @@ module _ (rest : Text) (end_is : not_next goes_on_number rest ≡ true) where
       let ps : List Text = all_pieces (items (more v vs)) in
       let more_is : ps ≡ printed w ∷ all_pieces (items vs) = ap (λ q. q ++ all_pieces (items vs)) (held_piece (is_looser 2) v hv) in
       let text_is : commas (pieces u ++ ps) ++ rest ≡ printed u ++ 44 ∷ 32 ∷ (commas ps ++ rest) =
-          ap (λ x. x ++ rest) (commas_some (printed u) (pieces u) ps (held_piece (is_looser 2) t h) ∙ ap (λ x. printed u ++ x) (behind_some (printed w) (all_pieces (items vs)) ps more_is))
-              ∙ append_assoc (printed u) (44 ∷ 32 ∷ commas ps) rest in
+      ap (λ x. x ++ rest) (commas_some (printed u) (pieces u) ps (held_piece (is_looser 2) t h) ∙ ap (λ x. printed u ++ x) (behind_some (printed w) (all_pieces (items vs)) ps more_is))
+      ∙ append_assoc (printed u) (44 ∷ 32 ∷ commas ps) rest in
       moved (λ a. Listed whole (u ∷ listing (items (more v vs))) a rest) (commas (pieces u ++ ps) ++ rest) (printed u ++ 44 ∷ 32 ∷ (commas ps ++ rest)) text_is
-          (and (held_level 2 (is_looser 2) t (lit≤ tt) (tight 2) h)
-              (held_stands (is_looser 2) t g.0 h (tight 2) (44 ∷ 32 ∷ (commas ps ++ rest)) (λ n. ends_by t (44 ∷ 32 ∷ (commas ps ++ rest)) refl))
-              (sign_token 44 (32 ∷ (commas ps ++ rest)) refl)
-              (gap_listed 32 refl (listed_stands v vs g.1 hv (and_right (fit expression v) (fit_each expression vs) hs))))
+      (and (held_level 2 (is_looser 2) t (lit≤ tt) (tight 2) h)
+      (held_stands (is_looser 2) t g.0 h (tight 2) (44 ∷ 32 ∷ (commas ps ++ rest)) (λ n. ends_by t (44 ∷ 32 ∷ (commas ps ++ rest)) refl))
+      (sign_token 44 (32 ∷ (commas ps ++ rest)) refl)
+      (gap_listed 32 refl (listed_stands v vs g.1 hv (and_right (fit expression v) (fit_each expression vs) hs))))
 
   pub group_stands : (ts : Terms) → AllClaims ts → fit_each expression ts ≡ true → Group whole (listing (items ts)) (commas (all_pieces (items ts)) ++ rest) rest
   group_stands none g h = no_items
@@ -143,8 +143,8 @@ ends_before_dot (node k texts ts) rest h = refl
 pub member_step : (texts : List Text) (ts : Terms) → AllClaims ts → one_text is_off texts ≡ true → fit_places (expression ∷ form.one Sort.name ∷ []) ts ≡ true → (rest : Text) → not_next goes_on rest ≡ true → Standing (node Kind.StaticMemberExpression texts ts) rest
 member_step texts ts g a p rest e =
     off_text (λ xs. Standing (node Kind.StaticMemberExpression xs ts) rest)
-        (two_parts (λ us. AllClaims us → Standing (node Kind.StaticMemberExpression ([] ∷ []) us) rest) expression (form.one Sort.name)
-            (λ f u hf hu. name_alone (λ v. AllClaims (two f v) → Standing (node Kind.StaticMemberExpression ([] ∷ []) (two f v)) rest) (λ x w k. of_object f x hf w k) u hu) ts p g) texts a
+    (two_parts (λ us. AllClaims us → Standing (node Kind.StaticMemberExpression ([] ∷ []) us) rest) expression (form.one Sort.name)
+    (λ f u hf hu. name_alone (λ v. AllClaims (two f v) → Standing (node Kind.StaticMemberExpression ([] ∷ []) (two f v)) rest) (λ x w k. of_object f x hf w k) u hu) ts p g) texts a
   where
     need : Term → Bool
     need t = is_looser 19 t || is_number t
@@ -153,54 +153,54 @@ member_step texts ts g a p rest e =
     of_object f x hf hx k =
         let w : Term = held need f in
         moved (λ b. Stands whole (member_of w x) b rest) ((printed w ++ 46 ∷ x) ++ rest) (printed w ++ 46 ∷ (x ++ rest)) (append_assoc (printed w) (46 ∷ x) rest)
-            (member (held_level 19 need f (lit≤ tt) (λ u h. or_left (is_looser 19 u) (is_number u) h) hf)
-                (held_stands need f k.0 hf (λ u h. lower 19 (lit≤ tt) u (or_left (is_looser 19 u) (is_number u) h)) (46 ∷ (x ++ rest)) (λ n. ends_before_dot f (x ++ rest) n))
-                (sign_token 46 (x ++ rest) refl) (word_token x rest hx e))
+        (member (held_level 19 need f (lit≤ tt) (λ u h. or_left (is_looser 19 u) (is_number u) h) hf)
+        (held_stands need f k.0 hf (λ u h. lower 19 (lit≤ tt) u (or_left (is_looser 19 u) (is_number u) h)) (46 ∷ (x ++ rest)) (λ n. ends_before_dot f (x ++ rest) n))
+        (sign_token 46 (x ++ rest) refl) (word_token x rest hx e))
 
 pub await_step : (texts : List Text) (ts : Terms) → AllClaims ts → no_texts texts ≡ true → fit_places (expression ∷ []) ts ≡ true → (rest : Text) → not_next goes_on_number rest ≡ true → Standing (node Kind.AwaitExpression texts ts) rest
 await_step texts ts g a p rest e =
     text_none (λ xs. Standing (node Kind.AwaitExpression xs ts) rest)
-        (one_part (λ us. AllClaims us → Standing (node Kind.AwaitExpression [] us) rest) expression
-            (λ f hf k.
-                let w : Term = held (is_looser 16) f in
-                await_expression (held_level 16 (is_looser 16) f (lit≤ tt) (tight 16) hf) (word_token (codes "await") (32 ∷ (printed w ++ rest)) refl refl)
-                    (gap_stands 32 refl (held_stands (is_looser 16) f k.0 hf (lower 16 (lit≤ tt)) rest (λ n. ends_by f rest e)))) ts p g) texts a
+    (one_part (λ us. AllClaims us → Standing (node Kind.AwaitExpression [] us) rest) expression
+    (λ f hf k.
+    let w : Term = held (is_looser 16) f in
+    await_expression (held_level 16 (is_looser 16) f (lit≤ tt) (tight 16) hf) (word_token (codes "await") (32 ∷ (printed w ++ rest)) refl refl)
+    (gap_stands 32 refl (held_stands (is_looser 16) f k.0 hf (lower 16 (lit≤ tt)) rest (λ n. ends_by f rest e)))) ts p g) texts a
 
 pub array_step : (texts : List Text) (ts : Terms) → AllClaims ts → no_texts texts ≡ true → fit_places (many Sort.expression ∷ []) ts ≡ true → (rest : Text) → Standing (node Kind.ArrayExpression texts ts) rest
 array_step texts ts g a p rest =
     text_none (λ xs. Standing (node Kind.ArrayExpression xs ts) rest)
-        (one_part (λ us. AllClaims us → Standing (node Kind.ArrayExpression [] us) rest) (many Sort.expression)
-            (λ f hf. many_part (λ v. AllClaims (one v) → Standing (node Kind.ArrayExpression [] (one v)) rest) Sort.expression of_elements f hf) ts p g) texts a
+    (one_part (λ us. AllClaims us → Standing (node Kind.ArrayExpression [] us) rest) (many Sort.expression)
+    (λ f hf. many_part (λ v. AllClaims (one v) → Standing (node Kind.ArrayExpression [] (one v)) rest) Sort.expression of_elements f hf) ts p g) texts a
   where
     of_elements : (es : Terms) → fit_each expression es ≡ true → AllClaims (one (list es)) → Standing (node Kind.ArrayExpression [] (one (list es))) rest
     of_elements es hs k =
         let cs : Text = commas (all_pieces (items es)) in
         moved (λ b. Stands whole (array_of (items es)) b rest) (91 ∷ ((cs ++ 93 ∷ []) ++ rest)) (91 ∷ (cs ++ 93 ∷ rest)) (ap (λ x. 91 ∷ x) (append_assoc cs (93 ∷ []) rest))
-            (subst (λ us. Stands whole (array_of us) (91 ∷ (cs ++ 93 ∷ rest)) rest) (all_listing (items es))
-                (array (sign_token 91 (cs ++ 93 ∷ rest) refl) (group_stands (93 ∷ rest) refl es k.0 hs) (sign_token 93 rest refl)))
+        (subst (λ us. Stands whole (array_of us) (91 ∷ (cs ++ 93 ∷ rest)) rest) (all_listing (items es))
+        (array (sign_token 91 (cs ++ 93 ∷ rest) refl) (group_stands (93 ∷ rest) refl es k.0 hs) (sign_token 93 rest refl)))
 
 -- a sequence has two expressions or more
 pub sequence_step : (texts : List Text) (ts : Terms) → AllClaims ts → no_texts texts ≡ true → fit_places (several Sort.expression ∷ []) ts ≡ true → (rest : Text) → not_next goes_on_number rest ≡ true → Lists (wrapped (node Kind.SequenceExpression texts ts)) (printed (wrapped (node Kind.SequenceExpression texts ts)) ++ rest) rest
 sequence_step texts ts g a p rest e =
     text_none (λ xs. In (node Kind.SequenceExpression xs ts))
-        (one_part (λ us. AllClaims us → In (node Kind.SequenceExpression [] us)) (several Sort.expression)
-            (λ f hf. several_part (λ v. AllClaims (one v) → In (node Kind.SequenceExpression [] (one v))) Sort.expression of_items f hf) ts p g) texts a
+    (one_part (λ us. AllClaims us → In (node Kind.SequenceExpression [] us)) (several Sort.expression)
+    (λ f hf. several_part (λ v. AllClaims (one v) → In (node Kind.SequenceExpression [] (one v))) Sort.expression of_items f hf) ts p g) texts a
   where
     In : Term → Type 0
     In t = Lists (wrapped t) (printed (wrapped t) ++ rest) rest
 
     of_items : (t u : Term) (us : Terms) → fit expression t ≡ true → fit_each expression (more u us) ≡ true → AllClaims (one (list (more t (more u us)))) → In (node Kind.SequenceExpression [] (one (list (more t (more u us)))))
     of_items t u us h hs k = record {
-        items = listing (items (more t (more u us)));
-        is_joined = ap sequence_of (all_listing (items (more t (more u us))));
-        stand = listed_stands rest e t (more u us) k.0 h hs
-      }
+      items = listing (items (more t (more u us)));
+      is_joined = ap sequence_of (all_listing (items (more t (more u us))));
+      stand = listed_stands rest e t (more u us) k.0 h hs;
+    }
 
 pub call_step : (texts : List Text) (ts : Terms) → AllClaims ts → one_text is_off texts ≡ true → fit_places (expression ∷ many Sort.expression ∷ []) ts ≡ true → (rest : Text) → Standing (node Kind.CallExpression texts ts) rest
 call_step texts ts g a p rest =
     off_text (λ xs. Standing (node Kind.CallExpression xs ts) rest)
-        (two_parts (λ us. AllClaims us → Standing (node Kind.CallExpression ([] ∷ []) us) rest) expression (many Sort.expression)
-            (λ f u hf hu. many_part (λ v. AllClaims (two f v) → Standing (node Kind.CallExpression ([] ∷ []) (two f v)) rest) Sort.expression (λ args hs k. with_arguments f args hf hs k) u hu) ts p g) texts a
+    (two_parts (λ us. AllClaims us → Standing (node Kind.CallExpression ([] ∷ []) us) rest) expression (many Sort.expression)
+    (λ f u hf hu. many_part (λ v. AllClaims (two f v) → Standing (node Kind.CallExpression ([] ∷ []) (two f v)) rest) Sort.expression (λ args hs k. with_arguments f args hf hs k) u hu) ts p g) texts a
   where
     with_arguments : (f : Term) (args : Terms) → fit expression f ≡ true → fit_each expression args ≡ true → AllClaims (two f (list args)) → Standing (node Kind.CallExpression ([] ∷ []) (two f (list args))) rest
     with_arguments f args hf hs k =
@@ -208,12 +208,12 @@ call_step texts ts g a p rest =
         let cs : Text = commas (all_pieces (items args)) in
         let looser : (u : Term) → is_looser 19 u ≡ false → is_looser 2 u ≡ false = lower 19 (lit≤ tt) in
         let text_is : (printed w ++ 40 ∷ (cs ++ 41 ∷ [])) ++ rest ≡ printed w ++ 40 ∷ (cs ++ 41 ∷ rest) =
-            append_assoc (printed w) (40 ∷ (cs ++ 41 ∷ [])) rest ∙ ap (λ x. printed w ++ 40 ∷ x) (append_assoc cs (41 ∷ []) rest) in
+        append_assoc (printed w) (40 ∷ (cs ++ 41 ∷ [])) rest ∙ ap (λ x. printed w ++ 40 ∷ x) (append_assoc cs (41 ∷ []) rest) in
         moved (λ b. Stands whole (call_of w (items args)) b rest) ((printed w ++ 40 ∷ (cs ++ 41 ∷ [])) ++ rest) (printed w ++ 40 ∷ (cs ++ 41 ∷ rest)) text_is
-            (subst (λ us. Stands whole (call_of w us) (printed w ++ 40 ∷ (cs ++ 41 ∷ rest)) rest) (all_listing (items args))
-                (call (held_level 19 (is_looser 19) f (lit≤ tt) (tight 19) hf)
-                    (held_stands (is_looser 19) f k.0 hf looser (40 ∷ (cs ++ 41 ∷ rest)) (λ n. ends_by f (40 ∷ (cs ++ 41 ∷ rest)) refl))
-                    (sign_token 40 (cs ++ 41 ∷ rest) refl) (group_stands (41 ∷ rest) refl args k.1.0 hs) (sign_token 41 rest refl)))
+        (subst (λ us. Stands whole (call_of w us) (printed w ++ 40 ∷ (cs ++ 41 ∷ rest)) rest) (all_listing (items args))
+        (call (held_level 19 (is_looser 19) f (lit≤ tt) (tight 19) hf)
+        (held_stands (is_looser 19) f k.0 hf looser (40 ∷ (cs ++ 41 ∷ rest)) (λ n. ends_by f (40 ∷ (cs ++ 41 ∷ rest)) refl))
+        (sign_token 40 (cs ++ 41 ∷ rest) refl) (group_stands (41 ∷ rest) refl args k.1.0 hs) (sign_token 41 rest refl)))
 
 -- no expression begins with a blank
 
@@ -255,7 +255,7 @@ member_fresh texts ts g p = two_parts (λ us. AllClaims us → Freshly (node Kin
 pub sequence_fresh : (texts : List Text) (ts : Terms) → AllClaims ts → fit_places (several Sort.expression ∷ []) ts ≡ true → Freshly (node Kind.SequenceExpression texts ts)
 sequence_fresh texts ts g p =
     one_part (λ us. AllClaims us → Freshly (node Kind.SequenceExpression texts us)) (several Sort.expression)
-        (λ f hf. several_part (λ v. AllClaims (one v) → Freshly (node Kind.SequenceExpression texts (one v))) Sort.expression of_items f hf) ts p g
+    (λ f hf. several_part (λ v. AllClaims (one v) → Freshly (node Kind.SequenceExpression texts (one v))) Sort.expression of_items f hf) ts p g
   where
     of_items : (t u : Term) (us : Terms) → fit expression t ≡ true → fit_each expression (more u us) ≡ true → AllClaims (one (list (more t (more u us)))) → Freshly (node Kind.SequenceExpression texts (one (list (more t (more u us)))))
     of_items t u us h hs k =

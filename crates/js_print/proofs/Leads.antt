@@ -20,9 +20,10 @@ or_cases false b h = inr h
 
 -- a test that no blank passes
 pub blank_fails : (test : ℕ → Bool) → test 32 ≡ false → test 9 ≡ false → test 10 ≡ false → test 13 ≡ false → (c : ℕ) → test c ≡ true → is_blank c ≡ false
-blank_fails test p q r s c h = false_by (is_blank c) (λ b. elim (or_cases (nat_eq c 32 || nat_eq c 9) (is_line_end c) b)
-    [ inl x ↦ elim (or_cases (nat_eq c 32) (nat_eq c 9) x) [ inl e ↦ at 32 p e | inr e ↦ at 9 q e ]
-    | inr x ↦ elim (or_cases (nat_eq c 10) (nat_eq c 13) x) [ inl e ↦ at 10 r e | inr e ↦ at 13 s e ] ])
+blank_fails test p q r s c h = false_by (is_blank c) (λ b. elim (or_cases (nat_eq c 32 || nat_eq c 9) (is_line_end c) b) [
+  | inl x ↦ elim (or_cases (nat_eq c 32) (nat_eq c 9) x) [ inl e ↦ at 32 p e | inr e ↦ at 9 q e ]
+  | inr x ↦ elim (or_cases (nat_eq c 10) (nat_eq c 13) x) [ inl e ↦ at 10 r e | inr e ↦ at 13 s e ]
+])
   where
     at : (d : ℕ) → test d ≡ false → nat_eq c d ≡ true → false ≡ true
     at d f e = sym f ∙ ap test (sym (eqb-true c d e)) ∙ h
@@ -102,9 +103,10 @@ quote_opens : (q : ℕ) (s : Text) → is_quote q ≡ true → opens_otherwise (
 quote_opens q s h = elim (or_cases (nat_eq q 39) (nat_eq q 34) h) [ inl e ↦ rw (eqb-true q 39 e) refl | inr e ↦ rw (eqb-true q 34 e) refl ]
 
 unreserved : (x : Text) → is_reserved x ≡ false → is_one_of x openers ≡ false
-unreserved x r = false_by (is_one_of x openers) (λ h. elim (or_cases (is_text x (codes "function")) (is_text x (codes "class") || false) h)
-    [ inl e ↦ sym r ∙ ap is_reserved (text_same x (codes "function") e)
-    | inr e ↦ elim (or_cases (is_text x (codes "class")) false e) [ inl f ↦ sym r ∙ ap is_reserved (text_same x (codes "class") f) | inr f ↦ f ] ])
+unreserved x r = false_by (is_one_of x openers) (λ h. elim (or_cases (is_text x (codes "function")) (is_text x (codes "class") || false) h) [
+  | inl e ↦ sym r ∙ ap is_reserved (text_same x (codes "function") e)
+  | inr e ↦ elim (or_cases (is_text x (codes "class")) false e) [ inl f ↦ sym r ∙ ap is_reserved (text_same x (codes "class") f) | inr f ↦ f ]
+])
 
 word_at : {x a b : Text} → Token whole a (word x) b → is_one_of x openers ≡ false → opens_otherwise a ≡ false
 word_at {x} {a} {b} t o = by t.is_spelled t.whole_is

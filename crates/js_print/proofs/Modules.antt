@@ -58,16 +58,16 @@ gap_next (next_statement s ss) = next_statement (gap_statement 32 refl s) ss
 statements_stand : (t : Term) (ts : Terms) → AllClaims (more t ts) → fit statement_place t ≡ true → fit_each statement_place ts ≡ true → (rest : Text) → Statements whole (listing (plainly (more t ts))) (separated (codes " ") (all_pieces (plainly (more t ts))) ++ rest) rest
 statements_stand t none g h hs rest =
     moved (λ a. Statements whole (wrapped t ∷ []) a rest) (separated (codes " ") (pieces (wrapped t) ++ []) ++ rest) (printed (wrapped t) ++ rest)
-        (first_of_one (codes " ") (printed (wrapped t)) (pieces (wrapped t)) rest (node_piece Sort.statement no_need t h))
-        (next_statement ((claim_of Sort.statement t g.0 h).states h rest) no_statements)
+    (first_of_one (codes " ") (printed (wrapped t)) (pieces (wrapped t)) rest (node_piece Sort.statement no_need t h))
+    (next_statement ((claim_of Sort.statement t g.0 h).states h rest) no_statements)
 statements_stand t (more v vs) g h hs rest =
     let hv : fit statement_place v ≡ true = and_left (fit statement_place v) (fit_each statement_place vs) hs in
     let ps : List Text = all_pieces (plainly (more v vs)) in
     let ps_is : ps ≡ printed (wrapped v) ∷ all_pieces (plainly vs) = ap (λ q. q ++ all_pieces (plainly vs)) (node_piece Sort.statement no_need v hv) in
     moved (λ a. Statements whole (listing (plainly (more t (more v vs)))) a rest) (separated (codes " ") (pieces (wrapped t) ++ ps) ++ rest) (printed (wrapped t) ++ 32 ∷ (separated (codes " ") ps ++ rest))
-        (first_of_more (codes " ") (printed (wrapped t)) (printed (wrapped v)) (pieces (wrapped t)) ps (all_pieces (plainly vs)) rest (node_piece Sort.statement no_need t h) ps_is)
-        (next_statement ((claim_of Sort.statement t g.0 h).states h (32 ∷ (separated (codes " ") ps ++ rest)))
-            (gap_next (statements_stand v vs g.1 hv (and_right (fit statement_place v) (fit_each statement_place vs) hs) rest)))
+    (first_of_more (codes " ") (printed (wrapped t)) (printed (wrapped v)) (pieces (wrapped t)) ps (all_pieces (plainly vs)) rest (node_piece Sort.statement no_need t h) ps_is)
+    (next_statement ((claim_of Sort.statement t g.0 h).states h (32 ∷ (separated (codes " ") ps ++ rest)))
+    (gap_next (statements_stand v vs g.1 hv (and_right (fit statement_place v) (fit_each statement_place vs) hs) rest)))
 
 -- braces round items that stand before a blank and the closing brace
 pub braces_some : (separator x : Text) (xs ps : List Text) (rest : Text) → ps ≡ x ∷ xs → braces separator ps ++ rest ≡ 123 ∷ 32 ∷ (separated separator ps ++ 32 ∷ 125 ∷ rest)
@@ -87,9 +87,9 @@ body_stands absent g h rest = differ (sym h)
 body_stands (list ts) g h rest = differ (sym h)
 body_stands (node Kind.FunctionBody texts ts) g h rest =
     text_none (λ xs. InBraces (node Kind.FunctionBody xs ts) rest)
-        (two_parts (λ us. AllClaims us → InBraces (node Kind.FunctionBody [] us) rest) empty (many Sort.statement)
-            (λ t u ht hu. empty_part (λ v. AllClaims (two v u) → InBraces (node Kind.FunctionBody [] (two v u)) rest) (many_part (λ v. AllClaims (two (list none) v) → InBraces (node Kind.FunctionBody [] (two (list none) v)) rest) Sort.statement of_statements u hu) t ht) ts
-            (and_right (no_texts texts) (fit_places (empty ∷ many Sort.statement ∷ []) ts) h) g.1) texts (and_left (no_texts texts) (fit_places (empty ∷ many Sort.statement ∷ []) ts) h)
+    (two_parts (λ us. AllClaims us → InBraces (node Kind.FunctionBody [] us) rest) empty (many Sort.statement)
+    (λ t u ht hu. empty_part (λ v. AllClaims (two v u) → InBraces (node Kind.FunctionBody [] (two v u)) rest) (many_part (λ v. AllClaims (two (list none) v) → InBraces (node Kind.FunctionBody [] (two (list none) v)) rest) Sort.statement of_statements u hu) t ht) ts
+    (and_right (no_texts texts) (fit_places (empty ∷ many Sort.statement ∷ []) ts) h) g.1) texts (and_left (no_texts texts) (fit_places (empty ∷ many Sort.statement ∷ []) ts) h)
   where
     of_statements : (us : Terms) → fit_each statement_place us ≡ true → AllClaims (two (list none) (list us)) → InBraces (node Kind.FunctionBody [] (two (list none) (list us))) rest
     of_statements none e k = record { statements = []; same = refl; stand = body (sign_token 123 (125 ∷ rest) refl) no_statements (sign_token 125 rest refl) }
@@ -103,8 +103,8 @@ body_stands (node Kind.FunctionBody texts ts) g h rest =
           stand = moved (λ a. Body whole (listing (plainly (more v vs))) a rest) (braces (codes " ") ps ++ rest) (123 ∷ 32 ∷ (separated (codes " ") ps ++ 32 ∷ 125 ∷ rest))
               (braces_some (codes " ") (printed (wrapped v)) (all_pieces (plainly vs)) ps rest ps_is)
               (body (sign_token 123 (32 ∷ (separated (codes " ") ps ++ 32 ∷ 125 ∷ rest)) refl)
-                  (gap_next (statements_stand v vs k.1.0 hv (and_right (fit statement_place v) (fit_each statement_place vs) e) (32 ∷ 125 ∷ rest)))
-                  (behind_gap 32 refl (sign_token 125 rest refl)))
+              (gap_next (statements_stand v vs k.1.0 hv (and_right (fit statement_place v) (fit_each statement_place vs) e) (32 ∷ 125 ∷ rest)))
+              (behind_gap 32 refl (sign_token 125 rest refl)));
         }
 body_stands (node k texts ts) g h rest = differ (sym h)
 
@@ -126,9 +126,9 @@ method_stands absent g h rest = differ (sym h)
 method_stands (list ts) g h rest = differ (sym h)
 method_stands (node Kind.FunctionExpression texts ts) g h rest =
     flags_off (λ xs. IsMethod (node Kind.FunctionExpression xs ts) rest)
-        (three_parts (λ us. AllClaims us → IsMethod (node Kind.FunctionExpression ([] ∷ [] ∷ []) us) rest) nothing (form.one Sort.parameters) (form.one Sort.function_body)
-            (λ t u v ht hu hv. absent_part (λ w. AllClaims (more w (two u v)) → IsMethod (node Kind.FunctionExpression ([] ∷ [] ∷ []) (more w (two u v))) rest) (λ k. of_parts u v hu hv k) t ht) ts
-            (and_right (two_flags texts) (fit_places (nothing ∷ form.one Sort.parameters ∷ form.one Sort.function_body ∷ []) ts) h) g.1) texts (and_left (two_flags texts) (fit_places (nothing ∷ form.one Sort.parameters ∷ form.one Sort.function_body ∷ []) ts) h)
+    (three_parts (λ us. AllClaims us → IsMethod (node Kind.FunctionExpression ([] ∷ [] ∷ []) us) rest) nothing (form.one Sort.parameters) (form.one Sort.function_body)
+    (λ t u v ht hu hv. absent_part (λ w. AllClaims (more w (two u v)) → IsMethod (node Kind.FunctionExpression ([] ∷ [] ∷ []) (more w (two u v))) rest) (λ k. of_parts u v hu hv k) t ht) ts
+    (and_right (two_flags texts) (fit_places (nothing ∷ form.one Sort.parameters ∷ form.one Sort.function_body ∷ []) ts) h) g.1) texts (and_left (two_flags texts) (fit_places (nothing ∷ form.one Sort.parameters ∷ form.one Sort.function_body ∷ []) ts) h)
   where
     of_parts : (u v : Term) → fit (form.one Sort.parameters) u ≡ true → fit (form.one Sort.function_body) v ≡ true → AllClaims (more absent (two u v)) → IsMethod (node Kind.FunctionExpression ([] ∷ [] ∷ []) (more absent (two u v))) rest
     of_parts u v hu hv k =
@@ -143,7 +143,7 @@ method_stands (node Kind.FunctionExpression texts ts) g h rest =
           behind_text = behind_is;
           text_is = append_assoc (printed (wrapped u)) (32 ∷ printed (wrapped v)) rest ∙ p.text_is;
           parameters = p.stand;
-          stand = b.stand
+          stand = b.stand;
         }
 method_stands (node k texts ts) g h rest = differ (sym h)
 
@@ -160,7 +160,7 @@ marks C f m (x ∷ mark ∷ flags) h =
     let c : is_one_of mark ([] ∷ codes "method" ∷ []) ≡ true = and_left (is_one_of mark ([] ∷ codes "method" ∷ [])) (two_flags flags) b in
     let d : two_flags flags ≡ true = and_right (is_one_of mark ([] ∷ codes "method" ∷ [])) (two_flags flags) b in
     subst (λ y. C (y ∷ mark ∷ flags)) (sym (text_same x (codes "init") a))
-        (flags_off (λ fs. C (codes "init" ∷ mark ∷ fs)) (by (is_text mark []) refl (is_text mark (codes "method")) refl c) flags d)
+    (flags_off (λ fs. C (codes "init" ∷ mark ∷ fs)) (by (is_text mark []) refl (is_text mark (codes "method")) refl c) flags d)
   where
     by : (p : Bool) → is_text mark [] ≡ p → (q : Bool) → is_text mark (codes "method") ≡ q → (p || (q || false)) ≡ true → C (codes "init" ∷ mark ∷ [] ∷ [] ∷ [])
     by true e q g k = subst (λ y. C (codes "init" ∷ y ∷ [] ∷ [] ∷ [])) (sym (text_same mark [] e)) f
@@ -172,11 +172,11 @@ property_stands absent g h c rest e = differ (sym h)
 property_stands (list ts) g h c rest e = differ (sym h)
 property_stands (node Kind.ObjectProperty texts ts) g h c rest e =
     marks (λ xs. fit_places (property_places xs) ts ≡ true → PropertyStands (node Kind.ObjectProperty xs ts) (c ∷ rest))
-        (λ p. two_parts (λ us. AllClaims us → PropertyStands (node Kind.ObjectProperty (codes "init" ∷ [] ∷ [] ∷ [] ∷ []) us) (c ∷ rest)) (form.one Sort.name) standing.expression
-            (λ t u ht hu. name_alone (λ v. AllClaims (two v u) → PropertyStands (node Kind.ObjectProperty (codes "init" ∷ [] ∷ [] ∷ [] ∷ []) (two v u)) (c ∷ rest)) (λ x w k. of_value x u w hu k) t ht) ts p g.1)
-        (λ p. two_parts (λ us. AllClaims us → PropertyStands (node Kind.ObjectProperty (codes "init" ∷ codes "method" ∷ [] ∷ [] ∷ []) us) (c ∷ rest)) (form.one Sort.name) (form.one Sort.method)
-            (λ t u ht hu. name_alone (λ v. AllClaims (two v u) → PropertyStands (node Kind.ObjectProperty (codes "init" ∷ codes "method" ∷ [] ∷ [] ∷ []) (two v u)) (c ∷ rest)) (λ x w k. of_method x u w hu k) t ht) ts p g.1)
-        texts (and_left (is_property texts) (fit_places (property_places texts) ts) h) (and_right (is_property texts) (fit_places (property_places texts) ts) h)
+    (λ p. two_parts (λ us. AllClaims us → PropertyStands (node Kind.ObjectProperty (codes "init" ∷ [] ∷ [] ∷ [] ∷ []) us) (c ∷ rest)) (form.one Sort.name) standing.expression
+    (λ t u ht hu. name_alone (λ v. AllClaims (two v u) → PropertyStands (node Kind.ObjectProperty (codes "init" ∷ [] ∷ [] ∷ [] ∷ []) (two v u)) (c ∷ rest)) (λ x w k. of_value x u w hu k) t ht) ts p g.1)
+    (λ p. two_parts (λ us. AllClaims us → PropertyStands (node Kind.ObjectProperty (codes "init" ∷ codes "method" ∷ [] ∷ [] ∷ []) us) (c ∷ rest)) (form.one Sort.name) (form.one Sort.method)
+    (λ t u ht hu. name_alone (λ v. AllClaims (two v u) → PropertyStands (node Kind.ObjectProperty (codes "init" ∷ codes "method" ∷ [] ∷ [] ∷ []) (two v u)) (c ∷ rest)) (λ x w k. of_method x u w hu k) t ht) ts p g.1)
+    texts (and_left (is_property texts) (fit_places (property_places texts) ts) h) (and_right (is_property texts) (fit_places (property_places texts) ts) h)
   where
     end_is : not_next goes_on_number (c ∷ rest) ≡ true
     end_is = rw e refl
@@ -185,8 +185,8 @@ property_stands (node Kind.ObjectProperty texts ts) g h c rest e =
     of_value x u w hu k =
         let v : Term = held (is_looser 2) u in
         moved (λ a. Property whole (property_of x v) a (c ∷ rest)) ((x ++ 58 ∷ 32 ∷ printed v) ++ c ∷ rest) (x ++ 58 ∷ 32 ∷ (printed v ++ c ∷ rest)) (append_assoc x (58 ∷ 32 ∷ printed v) (c ∷ rest))
-            (init (held_level 2 (is_looser 2) u (lit≤ tt) (tight 2) hu) (word_token x (58 ∷ 32 ∷ (printed v ++ c ∷ rest)) w refl) (sign_token 58 (32 ∷ (printed v ++ c ∷ rest)) refl)
-                (gap_stands 32 refl (held_stands (is_looser 2) u k.1.0 hu (tight 2) (c ∷ rest) (λ n. ends_by u (c ∷ rest) end_is))))
+        (init (held_level 2 (is_looser 2) u (lit≤ tt) (tight 2) hu) (word_token x (58 ∷ 32 ∷ (printed v ++ c ∷ rest)) w refl) (sign_token 58 (32 ∷ (printed v ++ c ∷ rest)) refl)
+        (gap_stands 32 refl (held_stands (is_looser 2) u k.1.0 hu (tight 2) (c ∷ rest) (λ n. ends_by u (c ∷ rest) end_is))))
 
     method_kind : (u : Term) → fit (form.one Sort.method) u ≡ true → held (is_looser 2) u ≡ wrapped u
     method_kind absent f = refl
@@ -199,10 +199,10 @@ property_stands (node Kind.ObjectProperty texts ts) g h c rest e =
         let m : IsMethod u (c ∷ rest) = method_stands u k.1.0 hu (c ∷ rest) in
         let t : Text = m.inside ++ 41 ∷ 32 ∷ m.behind_text in
         let node_is : node Kind.ObjectProperty (codes "init" ∷ codes "method" ∷ [] ∷ [] ∷ []) (two (name_of x) (held (is_looser 2) u)) ≡ method_property_of x m.texts (all m.statements) =
-            ap (λ v. node Kind.ObjectProperty (codes "init" ∷ codes "method" ∷ [] ∷ [] ∷ []) (two (name_of x) v)) (method_kind u hu ∙ m.same) in
+        ap (λ v. node Kind.ObjectProperty (codes "init" ∷ codes "method" ∷ [] ∷ [] ∷ []) (two (name_of x) v)) (method_kind u hu ∙ m.same) in
         let text_is : (x ++ printed (held (is_looser 2) u)) ++ c ∷ rest ≡ x ++ 40 ∷ t =
-            append_assoc x (printed (held (is_looser 2) u)) (c ∷ rest) ∙ ap (λ y. x ++ y) (ap (λ v. printed v ++ c ∷ rest) (method_kind u hu) ∙ m.text_is) in
+        append_assoc x (printed (held (is_looser 2) u)) (c ∷ rest) ∙ ap (λ y. x ++ y) (ap (λ v. printed v ++ c ∷ rest) (method_kind u hu) ∙ m.text_is) in
         moved (λ a. Property whole (node Kind.ObjectProperty (codes "init" ∷ codes "method" ∷ [] ∷ [] ∷ []) (two (name_of x) (held (is_looser 2) u))) a (c ∷ rest)) ((x ++ printed (held (is_looser 2) u)) ++ c ∷ rest) (x ++ 40 ∷ t) text_is
-            (subst (λ v. Property whole v (x ++ 40 ∷ t) (c ∷ rest)) (sym node_is)
-                (method (word_token x (40 ∷ t) w refl) (sign_token 40 t refl) m.parameters (sign_token 41 (32 ∷ m.behind_text) refl) (gap_body m.stand)))
+        (subst (λ v. Property whole v (x ++ 40 ∷ t) (c ∷ rest)) (sym node_is)
+        (method (word_token x (40 ∷ t) w refl) (sign_token 40 t refl) m.parameters (sign_token 41 (32 ∷ m.behind_text) refl) (gap_body m.stand)))
 property_stands (node k texts ts) g h c rest e = differ (sym h)

@@ -27,6 +27,7 @@ use Rattle.js_tree.specs.declared.expression.ParenthesizedExpression.{Parenthesi
 use Rattle.js_tree.specs.declared.expression.SequenceExpression.{SequenceExpression}
 use Rattle.js_tree.specs.declared.expression.StaticMemberExpression.{StaticMemberExpression}
 use Rattle.js_tree.specs.declared.function.Function.{Function}
+use Rattle.js_print.specs.Parts.{key_start}
 use Rattle.js_print.specs.Layout.{laid, row, cell, pieces, all_pieces, rows, printed, commas, behind, separated, braces, lines, lead, quoted, property_laid, is_looser, is_number, leads, needs, no_need, in_parentheses, held, held_kids, wrapped, at_level}
 
 -- a part in its place
@@ -60,7 +61,7 @@ behind_snoc : (separator : Text) (ys : List Text) (x : Text) → behind separato
 behind_snoc separator [] x = ap (λ z. separator ++ z) (append-nil x)
 behind_snoc separator (y ∷ ys) x =
     ap (λ z. separator ++ (y ++ z)) (behind_snoc separator ys x)
-        ∙ sym (ap (λ z. z) (append_assoc separator (y ++ behind separator ys) (separator ++ x)) ∙ ap (λ z. separator ++ z) (append_assoc y (behind separator ys) (separator ++ x)))
+    ∙ sym (ap (λ z. z) (append_assoc separator (y ++ behind separator ys) (separator ++ x)) ∙ ap (λ z. separator ++ z) (append_assoc y (behind separator ys) (separator ++ x)))
 
 separated_snoc : (separator : Text) (xs : List Text) (x : Text) → separated separator (xs ++ x ∷ []) ≡ separated separator xs ++ (lead separator (length xs) ++ x)
 separated_snoc separator [] x = append-nil x
@@ -70,12 +71,12 @@ length_before : {A : Type 0} (F : A → Text) (xs : List A) (i : ℕ) → i < le
 length_before F xs i h = length-map (take i xs) F ∙ (let k : i ≤ length xs = omega arith in length-take-le i xs k)
 
 -- a loop that prints items with separators, one item further
-pub item_printed : {A : Type 0} (separator : Text) (F : A → Text) (xs : List A) (start out mid new : Text) (i : ℕ) (d : A) → out ≡ start ++ separated separator (map F (take i xs)) → i < length xs → mid ≡ out ++ lead separator i → new ≡ mid ++ F (get_or xs i d) → new ≡ start ++ separated separator (map F (take (i + 1) xs))
-item_printed separator F xs start out mid new i d p h q r =
-    rw (add-one, take-suc xs i d h, map-append F (take i xs) (get_or xs i d ∷ []), separated_snoc separator (map F (take i xs)) (F (get_or xs i d)), length_before F xs i h)
-        (r ∙ ap (λ z. z ++ F (get_or xs i d)) (q ∙ ap (λ z. z ++ lead separator i) p)
-            ∙ append_assoc (start ++ separated separator (map F (take i xs))) (lead separator i) (F (get_or xs i d))
-            ∙ append_assoc start (separated separator (map F (take i xs))) (lead separator i ++ F (get_or xs i d)))
+pub item_printed : {A : Type 0} (separator : Text) (F : A → Text) (xs : List A) (start out mid new : Text) (i : ℕ) (x : A) → x ≡ get_or xs i x → out ≡ start ++ separated separator (map F (take i xs)) → i < length xs → mid ≡ out ++ lead separator i → new ≡ mid ++ F x → new ≡ start ++ separated separator (map F (take (i + 1) xs))
+item_printed separator F xs start out mid new i x e p h q r =
+    rw (add-one, take-suc xs i x h, map-append F (take i xs) (get_or xs i x ∷ []), separated_snoc separator (map F (take i xs)) (F (get_or xs i x)), length_before F xs i h)
+    (r ∙ ap (λ y. mid ++ F y) e ∙ ap (λ z. z ++ F (get_or xs i x)) (q ∙ ap (λ z. z ++ lead separator i) p)
+    ∙ append_assoc (start ++ separated separator (map F (take i xs))) (lead separator i) (F (get_or xs i x))
+    ∙ append_assoc start (separated separator (map F (take i xs))) (lead separator i ++ F (get_or xs i x)))
 
 -- expressions
 
@@ -132,8 +133,38 @@ property_text p = one_text (property_term expression_term p)
 pub r_ObjectExpression : (n : ObjectExpression Expression) → one_text (expression_term (expression.ObjectExpression n)) ≡ braces (codes ", ") (map property_text n.properties)
 r_ObjectExpression n = rw (e_ObjectExpression n) (ap (braces (codes ", ")) (pieces_each (property_term expression_term) no_need (λ p. refl) n.properties))
 
-pub r_property : (p : ObjectProperty Expression) → p.method ≡ false → property_text p ≡ p.key.name ++ (codes ": " ++ needs_parentheses (is_looser 2) p.value)
-r_property p h = rw (h, held_expression (is_looser 2) p.value) refl
+property_by : (p : ObjectProperty Expression) (b : Bool) → p.method ≡ b → property_text p ≡ key_start b p.key.name ++ needs_parentheses (is_looser 2) p.value
+property_by p true h = rw (h, held_expression (is_looser 2) p.value) refl
+property_by p false h = rw (h, held_expression (is_looser 2) p.value) (sym (append_assoc p.key.name (codes ": ") (needs_parentheses (is_looser 2) p.value)))
 
-pub r_method : (p : ObjectProperty Expression) → p.method ≡ true → property_text p ≡ p.key.name ++ needs_parentheses (is_looser 2) p.value
-r_method p h = rw (h, held_expression (is_looser 2) p.value) refl
+pub r_property : (p : ObjectProperty Expression) → property_text p ≡ key_start p.method p.key.name ++ needs_parentheses (is_looser 2) p.value
+r_property p = property_by p p.method refl
+
+-- a property behind its key
+pub property_printed : (p : ObjectProperty Expression) (mid key new : Text) → key ≡ mid ++ key_start p.method p.key.name → new ≡ key ++ needs_parentheses (is_looser 2) p.value → new ≡ mid ++ property_text p
+property_printed p mid key new r t =
+    t ∙ ap (λ z. z ++ needs_parentheses (is_looser 2) p.value) r ∙ append_assoc mid (key_start p.method p.key.name) (needs_parentheses (is_looser 2) p.value) ∙ ap (λ z. mid ++ z) (sym (r_property p))
+
+braces_of : (separator : Text) (xs : List Text) → 0 < length xs → braces separator xs ≡ codes "{ " ++ (separated separator xs ++ codes " }")
+braces_of separator [] h = absurd (omega arith)
+braces_of separator (x ∷ xs) h = refl
+
+-- items in braces, once they are all printed
+pub braces_printed : {A : Type 0} (separator : Text) (F : A → Text) (xs : List A) (start mid out new : Text) → 0 < length xs → mid ≡ start ++ codes "{ " → out ≡ mid ++ separated separator (map F xs) → new ≡ out ++ codes " }" → new ≡ start ++ braces separator (map F xs)
+braces_printed separator F xs start mid out new h p q r =
+    let some : 0 < length (map F xs) = let e : length (map F xs) ≡ length xs = length-map xs F in omega arith in
+    r ∙ ap (λ z. z ++ codes " }") (q ∙ ap (λ z. z ++ separated separator (map F xs)) p)
+    ∙ append_assoc (start ++ codes "{ ") (separated separator (map F xs)) (codes " }") ∙ append_assoc start (codes "{ ") (separated separator (map F xs) ++ codes " }")
+    ∙ ap (λ z. start ++ z) (sym (braces_of separator (map F xs) some))
+
+-- a loop that prints lines, one line further
+lines-append : (xs ys : List Text) → lines (xs ++ ys) ≡ lines xs ++ lines ys
+lines-append [] ys = refl
+lines-append (x ∷ xs) ys = ap (λ z. x ++ 10 ∷ z) (lines-append xs ys) ∙ sym (append_assoc x (10 ∷ lines xs) (lines ys))
+
+pub line_printed : {A : Type 0} (F : A → Text) (xs : List A) (start out mid new : Text) (i : ℕ) (x : A) → x ≡ get_or xs i x → out ≡ start ++ lines (map F (take i xs)) → i < length xs → mid ≡ out ++ F x → new ≡ mid ++ 10 ∷ [] → new ≡ start ++ lines (map F (take (i + 1) xs))
+line_printed F xs start out mid new i x e p h q r =
+    rw (add-one, take-suc xs i x h, map-append F (take i xs) (get_or xs i x ∷ []), lines-append (map F (take i xs)) (F (get_or xs i x) ∷ []))
+    (r ∙ ap (λ z. z ++ 10 ∷ []) (q ∙ ap (λ y. out ++ F y) e ∙ ap (λ z. z ++ F (get_or xs i x)) p)
+    ∙ append_assoc (start ++ lines (map F (take i xs))) (F (get_or xs i x)) (10 ∷ [])
+    ∙ append_assoc start (lines (map F (take i xs))) (F (get_or xs i x) ++ 10 ∷ []))

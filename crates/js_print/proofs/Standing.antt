@@ -144,7 +144,7 @@ held_stands need (node k texts ts) g h f rest e = by (need u) refl
     by : (c : Bool) → need u ≡ c → Stands whole (in_parentheses c u) (printed (in_parentheses c u) ++ rest) rest
     by true n =
         moved (λ a. Stands whole (parenthesized_of u) a rest) (40 ∷ ((printed u ++ 41 ∷ []) ++ rest)) (40 ∷ (printed u ++ 41 ∷ rest)) (ap (λ a. 40 ∷ a) (append_assoc (printed u) (41 ∷ []) rest))
-            (subst (λ v. Stands whole (parenthesized_of v) (40 ∷ (printed u ++ 41 ∷ rest)) rest) inside.is_joined (parenthesized (sign_token 40 (printed u ++ 41 ∷ rest) refl) inside.stand (sign_token 41 rest refl)))
+        (subst (λ v. Stands whole (parenthesized_of v) (40 ∷ (printed u ++ 41 ∷ rest)) rest) inside.is_joined (parenthesized (sign_token 40 (printed u ++ 41 ∷ rest) refl) inside.stand (sign_token 41 rest refl)))
     by false n = g.0.stands h (f u n) rest (e n)
 
 -- lists of parts

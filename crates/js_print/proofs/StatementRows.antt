@@ -1,5 +1,5 @@
 -- The text of each statement, by the texts of its parts.
-use Rattle.std.proofs.Common.{◌≡◌, refl, sym, ◌∙◌, ap, ℕ, List, [], ◌∷◌, ◌++◌, map, Option, None, Some, Bool, true, false, ◌||◌}
+use Rattle.std.proofs.Common.{◌≡◌, refl, sym, ◌∙◌, ap, ℕ, List, [], ◌∷◌, ◌++◌, map, Option, None, Some, Bool, true, false, ◌||◌, append_assoc}
 use Rattle.std.specs.Prelude.{codes, option_map}
 use Rattle.js_term.specs.Term.{Text, Kind, Term, absent, list, node, Terms, none, more, one, two, all, maybe, flag}
 use Rattle.js_term.specs.Spells.{is_string_literal}
@@ -16,6 +16,9 @@ use Rattle.js_tree.specs.declared.statement.VariableDeclaration.{VariableDeclara
 use Rattle.js_tree.specs.declared.statement.VariableDeclarator.{VariableDeclarator}
 use Rattle.js_tree.specs.declared.module.ImportDeclaration.{ImportDeclaration}
 use Rattle.js_tree.specs.declared.module.ImportSpecifier.{ImportSpecifier}
+use Rattle.js_tree.specs.declared.module.ModuleExportName.TheVariants as export_name
+use Rattle.js_tree.specs.declared.id.IdentifierName.{IdentifierName}
+use Rattle.js_tree.specs.declared.id.IdentifierReference.{IdentifierReference}
 use Rattle.js_tree.specs.declared.module.ExportDeclaration.{ExportDeclaration}
 use Rattle.js_tree.specs.declared.module.Program.{Program}
 use Rattle.js_tree.specs.declared.function.Function.{Function}
@@ -29,16 +32,13 @@ use Rattle.js_tree.specs.declared.function.FormalParameters.{FormalParameters}
 use Rattle.js_tree.specs.declared.id.BindingIdentifier.{BindingIdentifier}
 use Rattle.js_tree.specs.declared.expression.StringLiteral.{StringLiteral}
 use Rattle.js_print.specs.Layout.{laid, pieces, all_pieces, rows, printed, commas, separated, braces, lines, quoted, renamed_text, is_looser, leads, no_need, held, held_kids, wrapped, layout}
+use Rattle.js_print.specs.Parts.{id_text, function_start, imported_text}
 use Rattle.js_print.proofs.Rows.{one_text, needs_parentheses, held_expression, pieces_each, statements_pieces}
 
 -- functions
 
-abbrev pub id_text : Option BindingIdentifier → Text
-id_text None = []
-id_text (Some n) = n.name
-
 abbrev pub pattern_text : BindingPattern → Text
-pattern_text (binding_pattern.BindingIdentifier n) = n.name
+pattern_text q = one_text (pattern_term q)
 
 abbrev pub parameter_name : FormalParameter BindingPattern → Text
 parameter_name p = pattern_text p.pattern
@@ -51,9 +51,6 @@ statements_text ss = braces (codes " ") (map (λ s. one_text (statement_term s))
 
 pattern_piece : (p : FormalParameter BindingPattern) → pieces (held no_need (parameter_term p)) ≡ printed (held no_need (parameter_term p)) ∷ []
 pattern_piece p = refl
-
-pattern_is : (p : BindingPattern) → one_text (pattern_term p) ≡ pattern_text p
-pattern_is (binding_pattern.BindingIdentifier n) = refl
 
 parameter_is : (p : FormalParameter BindingPattern) → one_text (parameter_term p) ≡ parameter_name p
 parameter_is p = pattern_first p.pattern
@@ -75,11 +72,6 @@ id_is : (o : Option BindingIdentifier) → printed (held no_need (maybe (option_
 id_is None = refl
 id_is (Some n) = refl
 
--- what stands before the parameters
-abbrev pub function_start : FunctionKind → Option BindingIdentifier → Text
-function_start function_kind.FunctionDeclaration o = codes "function " ++ id_text o
-function_start function_kind.FunctionExpression o = []
-
 abbrev pub function_text : Function → Text
 function_text n = function_start n.kind n.id ++ (parameters_text n.params.items ++ (codes " " ++ statements_text n.body.statements))
 
@@ -89,6 +81,16 @@ function_by function_kind.FunctionExpression texts o ps b = λ i. parameters_is 
 
 pub r_Function : (n : Function) → one_text (function_term n) ≡ function_text n
 r_Function n = ap one_text (function_parts n) ∙ function_by n.kind (flag n.is_async (codes "async") ∷ flag n.is_generator (codes "*") ∷ []) n.id n.params n.body
+
+-- a function, once its parts are printed
+pub function_printed : (n : Function) (old a b c new : Text) → a ≡ old ++ function_start n.kind n.id → b ≡ a ++ parameters_text n.params.items → c ≡ b ++ codes " " → new ≡ c ++ statements_text n.body.statements → new ≡ old ++ one_text (function_term n)
+function_printed n old a b c new p q r s =
+    let start : Text = function_start n.kind n.id in
+    let ps : Text = parameters_text n.params.items in
+    let ss : Text = statements_text n.body.statements in
+    s ∙ ap (λ z. z ++ ss) (r ∙ ap (λ z. z ++ codes " ") (q ∙ ap (λ z. z ++ ps) p))
+    ∙ append_assoc ((old ++ start) ++ ps) (codes " ") ss ∙ append_assoc (old ++ start) ps (codes " " ++ ss) ∙ append_assoc old start (ps ++ (codes " " ++ ss))
+    ∙ ap (λ z. old ++ z) (sym (r_Function n))
 
 -- declarations
 
@@ -145,20 +147,30 @@ r_return_some n e h = ap one_text (s_ReturnStatement n) ∙ rw h refl
 pub r_ExportDeclaration : (n : ExportDeclaration Declaration) → one_text (statement_term (statement.ExportDeclaration n)) ≡ codes "export " ++ one_text (declaration_term n.declaration)
 r_ExportDeclaration n = ap one_text (s_ExportDeclaration n)
 
-abbrev pub specifier_text : ImportSpecifier → Text
-specifier_text n = renamed_text (one_text (export_name_term n.imported)) n.local.name
+pub r_specifier_name : (n : ImportSpecifier) (m : IdentifierName) → n.imported ≡ export_name.IdentifierName m → one_text (specifier_term n) ≡ renamed_text false m.name n.local.name
+r_specifier_name n m h = rw h refl
 
-specifier_is : (n : ImportSpecifier) → one_text (specifier_term n) ≡ specifier_text n
-specifier_is n = refl
+pub r_specifier_reference : (n : ImportSpecifier) (m : IdentifierReference) → n.imported ≡ export_name.IdentifierReference m → one_text (specifier_term n) ≡ renamed_text false m.name n.local.name
+r_specifier_reference n m h = rw h refl
 
-abbrev pub import_text : List ImportSpecifier → StringLiteral → Text
-import_text ss source = codes "import { " ++ (commas (map specifier_text ss) ++ (codes " } from " ++ (quoted source.value ++ codes ";")))
+pub r_specifier_string : (n : ImportSpecifier) (m : StringLiteral) → n.imported ≡ export_name.StringLiteral m → one_text (specifier_term n) ≡ quoted m.value ++ (codes " as " ++ n.local.name)
+r_specifier_string n m h = rw h refl
 
-pub r_import_some : (n : ImportDeclaration) (ss : List ImportSpecifier) → n.specifiers ≡ Some ss → one_text (statement_term (statement.ImportDeclaration n)) ≡ import_text ss n.source
-r_import_some n ss h = ap one_text (s_ImportDeclaration n) ∙ rw h (ap (λ xs. codes "import { " ++ (commas xs ++ (codes " } from " ++ (quoted n.source.value ++ codes ";")))) (pieces_each specifier_term no_need (λ s. refl) ss))
+import_by : (n : ImportDeclaration) (o : Option (List ImportSpecifier)) → n.specifiers ≡ o → one_text (statement_term (statement.ImportDeclaration n)) ≡ codes "import { " ++ (imported_text o ++ (codes " } from " ++ (quoted n.source.value ++ codes ";")))
+import_by n None h = ap one_text (s_ImportDeclaration n) ∙ rw h refl
+import_by n (Some ss) h = ap one_text (s_ImportDeclaration n) ∙ rw h (ap (λ xs. codes "import { " ++ (commas xs ++ (codes " } from " ++ (quoted n.source.value ++ codes ";")))) (pieces_each specifier_term no_need (λ s. refl) ss))
 
-pub r_import_none : (n : ImportDeclaration) → n.specifiers ≡ None → one_text (statement_term (statement.ImportDeclaration n)) ≡ import_text [] n.source
-r_import_none n h = ap one_text (s_ImportDeclaration n) ∙ rw h refl
+-- an import, once its parts are printed
+pub import_printed : (n : ImportDeclaration) (old a b c d new : Text) → a ≡ old ++ codes "import { " → b ≡ a ++ imported_text n.specifiers → c ≡ b ++ codes " } from " → d ≡ c ++ quoted n.source.value → new ≡ d ++ codes ";" → new ≡ old ++ one_text (statement_term (statement.ImportDeclaration n))
+import_printed n old a b c d new p q r s t =
+    let is : Text = imported_text n.specifiers in
+    let source : Text = quoted n.source.value in
+    t ∙ ap (λ z. z ++ codes ";") (s ∙ ap (λ z. z ++ source) (r ∙ ap (λ z. z ++ codes " } from ") (q ∙ ap (λ z. z ++ is) p)))
+    ∙ append_assoc (((old ++ codes "import { ") ++ is) ++ codes " } from ") source (codes ";")
+    ∙ append_assoc ((old ++ codes "import { ") ++ is) (codes " } from ") (source ++ codes ";")
+    ∙ append_assoc (old ++ codes "import { ") is (codes " } from " ++ (source ++ codes ";"))
+    ∙ append_assoc old (codes "import { ") (is ++ (codes " } from " ++ (source ++ codes ";")))
+    ∙ ap (λ z. old ++ z) (sym (import_by n n.specifiers refl))
 
 -- a module
 

@@ -37,7 +37,7 @@ first_of_one separator x ps rest e = ap (λ y. y ++ rest) (separated_some separa
 pub first_of_more : (separator x y : Text) (ps qs ys : List Text) (rest : Text) → ps ≡ x ∷ [] → qs ≡ y ∷ ys → separated separator (ps ++ qs) ++ rest ≡ x ++ (separator ++ (separated separator qs ++ rest))
 first_of_more separator x y ps qs ys rest e f =
     ap (λ z. z ++ rest) (separated_some separator x ps qs e ∙ ap (λ z. x ++ z) (behind_some separator y ys qs f))
-        ∙ append_assoc x (separator ++ separated separator qs) rest ∙ ap (λ z. x ++ z) (append_assoc separator (separated separator qs) rest)
+    ∙ append_assoc x (separator ++ separated separator qs) rest ∙ ap (λ z. x ++ z) (append_assoc separator (separated separator qs) rest)
 
 -- parameters
 
@@ -46,9 +46,9 @@ parameter_name C f absent h = differ (sym h)
 parameter_name C f (list ts) h = differ (sym h)
 parameter_name C f (node Kind.FormalParameter texts ts) h =
     text_none (λ xs. C (node Kind.FormalParameter xs ts))
-        (two_parts (λ us. C (node Kind.FormalParameter [] us)) (form.one Sort.binding) nothing
-            (λ t u ht hu. absent_part (λ v. C (node Kind.FormalParameter [] (two t v))) (binding_alone (λ v. C (node Kind.FormalParameter [] (two v absent))) f t ht) u hu) ts
-            (and_right (no_texts texts) (fit_places (form.one Sort.binding ∷ nothing ∷ []) ts) h)) texts (and_left (no_texts texts) (fit_places (form.one Sort.binding ∷ nothing ∷ []) ts) h)
+    (two_parts (λ us. C (node Kind.FormalParameter [] us)) (form.one Sort.binding) nothing
+    (λ t u ht hu. absent_part (λ v. C (node Kind.FormalParameter [] (two t v))) (binding_alone (λ v. C (node Kind.FormalParameter [] (two v absent))) f t ht) u hu) ts
+    (and_right (no_texts texts) (fit_places (form.one Sort.binding ∷ nothing ∷ []) ts) h)) texts (and_left (no_texts texts) (fit_places (form.one Sort.binding ∷ nothing ∷ []) ts) h)
 parameter_name C f (node k texts ts) h = differ (sym h)
 
 -- names that are parameters
@@ -68,10 +68,10 @@ piece_of x = refl
 names_stand : (t : Term) (ts : Terms) → fit (form.one Sort.parameter) t ≡ true → fit_each (form.one Sort.parameter) ts ≡ true → (rest : Text) → Some t ts rest
 names_stand t none h hs rest =
     parameter_name (λ v. Some v none rest) (λ x w r. record {
-        texts = x ∷ [];
-        same = refl;
-        stand = moved (λ a. Names whole (x ∷ []) a (41 ∷ rest)) ((x ++ []) ++ 41 ∷ rest) (x ++ 41 ∷ rest) (ap (λ y. y ++ 41 ∷ rest) (append-nil x)) (last_name r (word_token x (41 ∷ rest) w refl))
-      }) t h
+      texts = x ∷ [];
+      same = refl;
+      stand = moved (λ a. Names whole (x ∷ []) a (41 ∷ rest)) ((x ++ []) ++ 41 ∷ rest) (x ++ 41 ∷ rest) (ap (λ y. y ++ 41 ∷ rest) (append-nil x)) (last_name r (word_token x (41 ∷ rest) w refl));
+    }) t h
 names_stand t (more v vs) h hs rest = with_rest (names_stand v vs (and_left (fit (form.one Sort.parameter) v) (fit_each (form.one Sort.parameter) vs) hs) (and_right (fit (form.one Sort.parameter) v) (fit_each (form.one Sort.parameter) vs) hs) rest)
   where
     piece : (u : Term) → fit (form.one Sort.parameter) u ≡ true → pieces (held no_need u) ≡ printed (held no_need u) ∷ []
@@ -86,7 +86,7 @@ names_stand t (more v vs) h hs rest = with_rest (names_stand v vs (and_left (fit
           same = ap (more (node Kind.FormalParameter [] (two (binding_of x) absent))) s.same;
           stand = moved (λ a. Names whole (x ∷ s.texts) a (41 ∷ rest)) (commas ((x ∷ []) ++ ps) ++ 41 ∷ rest) (x ++ 44 ∷ 32 ∷ (commas ps ++ 41 ∷ rest))
               (first_of_more comma_blank x (printed (held no_need v)) (x ∷ []) ps (all_pieces (plainly vs)) (41 ∷ rest) refl ps_is)
-              (and_name r (word_token x (44 ∷ 32 ∷ (commas ps ++ 41 ∷ rest)) w refl) (sign_token 44 (32 ∷ (commas ps ++ 41 ∷ rest)) refl) (gap_names 32 refl s.stand))
+              (and_name r (word_token x (44 ∷ 32 ∷ (commas ps ++ 41 ∷ rest)) w refl) (sign_token 44 (32 ∷ (commas ps ++ 41 ∷ rest)) refl) (gap_names 32 refl s.stand));
         }) t h
 
 -- parameters in their parentheses
@@ -102,9 +102,9 @@ parameters_stand absent h rest = differ (sym h)
 parameters_stand (list ts) h rest = differ (sym h)
 parameters_stand (node Kind.FormalParameters texts ts) h rest =
     text_none (λ xs. InParentheses (node Kind.FormalParameters xs ts) rest)
-        (two_parts (λ us. InParentheses (node Kind.FormalParameters [] us) rest) (many Sort.parameter) nothing
-            (λ t u ht hu. absent_part (λ v. InParentheses (node Kind.FormalParameters [] (two t v)) rest) (many_part (λ v. InParentheses (node Kind.FormalParameters [] (two v absent)) rest) Sort.parameter of_names t ht) u hu) ts
-            (and_right (no_texts texts) (fit_places (many Sort.parameter ∷ nothing ∷ []) ts) h)) texts (and_left (no_texts texts) (fit_places (many Sort.parameter ∷ nothing ∷ []) ts) h)
+    (two_parts (λ us. InParentheses (node Kind.FormalParameters [] us) rest) (many Sort.parameter) nothing
+    (λ t u ht hu. absent_part (λ v. InParentheses (node Kind.FormalParameters [] (two t v)) rest) (many_part (λ v. InParentheses (node Kind.FormalParameters [] (two v absent)) rest) Sort.parameter of_names t ht) u hu) ts
+    (and_right (no_texts texts) (fit_places (many Sort.parameter ∷ nothing ∷ []) ts) h)) texts (and_left (no_texts texts) (fit_places (many Sort.parameter ∷ nothing ∷ []) ts) h)
   where
     of_names : (us : Terms) → fit_each (form.one Sort.parameter) us ≡ true → InParentheses (node Kind.FormalParameters [] (two (list us) absent)) rest
     of_names none g = record { texts = []; same = refl; inside = []; text_is = refl; stand = no_names }
@@ -115,6 +115,6 @@ parameters_stand (node Kind.FormalParameters texts ts) h rest =
           same = ap (λ us. node Kind.FormalParameters [] (two (list us) absent)) s.same;
           inside = commas (all_pieces (plainly (more v vs)));
           text_is = ap (λ y. 40 ∷ y) (append_assoc (commas (all_pieces (plainly (more v vs)))) (41 ∷ []) rest);
-          stand = names s.stand
+          stand = names s.stand;
         }
 parameters_stand (node k texts ts) h rest = differ (sym h)

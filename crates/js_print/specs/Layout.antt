@@ -1,6 +1,6 @@
 -- The layout of a printed module, and where parentheses are put.
 use Rattle.std.specs.Prelude.{◌≡◌, ℕ, zero, suc, List, [], ◌∷◌, ◌++◌, Bool, true, false, cond, not, ◌&&◌, ◌||◌, if◌then◌else◌, nat_eq, nat_lt, codes}
-use Rattle.js_term.specs.Term.{Text, is_text, Kind, Term, absent, list, node, Terms, none, more, first, strip}
+use Rattle.js_term.specs.Term.{Text, is_text, Kind, Term, absent, list, node, Terms, none, more, first, head, strip}
 use Rattle.js_term.specs.Lexeme.{whole}
 use Rattle.js_term.specs.Spells.{level, is_string_literal, Spells}
 use Rattle.js_term.specs.Node.{parenthesized_of}
@@ -46,46 +46,46 @@ row (suc n) (r ∷ rs) = row n rs
 abbrev pub cell : ℕ → List (List Text) → Text
 cell n rs = first (row n rs)
 
--- one name for both, where they are the same
-abbrev pub renamed_text : Text → Text → Text
-renamed_text x y = if is_text x y then x else x ++ (codes " as " ++ y)
+-- one name for both, where they are the same and the first is no string
+abbrev pub renamed_text : Bool → Text → Text → Text
+renamed_text is_string x y = if not is_string && is_text x y then x else x ++ (codes " as " ++ y)
 
 abbrev pub property_laid : List Text → Text → Text → Text
 property_laid (form ∷ [] ∷ flags) key value = key ++ (codes ": " ++ value)
 property_laid texts key value = key ++ value
 
--- a node by its texts, and a row of printed parts for each kid
-abbrev pub laid : Kind → List Text → List (List Text) → Text
-laid Kind.Program texts rs = lines (row 1 rs)
-laid Kind.ImportDeclaration texts rs = codes "import { " ++ (commas (row 0 rs) ++ (codes " } from " ++ (cell 1 rs ++ codes ";")))
-laid Kind.ImportSpecifier texts rs = renamed_text (cell 0 rs) (cell 1 rs)
-laid Kind.ExportDeclaration texts rs = codes "export " ++ cell 0 rs
-laid Kind.VariableDeclaration texts rs = first texts ++ (codes " " ++ (commas (row 0 rs) ++ codes ";"))
-laid Kind.VariableDeclarator texts rs = cell 0 rs ++ (codes " = " ++ cell 1 rs)
-laid Kind.FunctionDeclaration texts rs = codes "function " ++ (cell 0 rs ++ (cell 1 rs ++ (codes " " ++ cell 2 rs)))
-laid Kind.FunctionExpression texts rs = cell 1 rs ++ (codes " " ++ cell 2 rs)
-laid Kind.FormalParameters texts rs = codes "(" ++ (commas (row 0 rs) ++ codes ")")
-laid Kind.FormalParameter texts rs = cell 0 rs
-laid Kind.FunctionBody texts rs = braces (codes " ") (row 1 rs)
-laid Kind.ReturnStatement texts rs = codes "return " ++ (cell 0 rs ++ codes ";")
-laid Kind.ExpressionStatement texts rs = cell 0 rs ++ codes ";"
-laid Kind.StringLiteral texts rs = quoted (first texts)
-laid Kind.CallExpression texts rs = cell 0 rs ++ (codes "(" ++ (commas (row 1 rs) ++ codes ")"))
-laid Kind.StaticMemberExpression texts rs = cell 0 rs ++ (codes "." ++ cell 1 rs)
-laid Kind.SequenceExpression texts rs = commas (row 0 rs)
-laid Kind.AwaitExpression texts rs = codes "await " ++ cell 0 rs
-laid Kind.ArrayExpression texts rs = codes "[" ++ (commas (row 0 rs) ++ codes "]")
-laid Kind.ObjectExpression texts rs = braces (codes ", ") (row 0 rs)
-laid Kind.ObjectProperty texts rs = property_laid texts (cell 0 rs) (cell 1 rs)
-laid Kind.ParenthesizedExpression texts rs = codes "(" ++ (cell 0 rs ++ codes ")")
-laid k texts rs = first texts
+-- a node by its texts, its kids, and a row of printed parts for each kid
+abbrev pub laid : Kind → List Text → Terms → List (List Text) → Text
+laid Kind.Program texts ts rs = lines (row 1 rs)
+laid Kind.ImportDeclaration texts ts rs = codes "import { " ++ (commas (row 0 rs) ++ (codes " } from " ++ (cell 1 rs ++ codes ";")))
+laid Kind.ImportSpecifier texts ts rs = renamed_text (is_string_literal (head ts)) (cell 0 rs) (cell 1 rs)
+laid Kind.ExportDeclaration texts ts rs = codes "export " ++ cell 0 rs
+laid Kind.VariableDeclaration texts ts rs = first texts ++ (codes " " ++ (commas (row 0 rs) ++ codes ";"))
+laid Kind.VariableDeclarator texts ts rs = cell 0 rs ++ (codes " = " ++ cell 1 rs)
+laid Kind.FunctionDeclaration texts ts rs = codes "function " ++ (cell 0 rs ++ (cell 1 rs ++ (codes " " ++ cell 2 rs)))
+laid Kind.FunctionExpression texts ts rs = cell 1 rs ++ (codes " " ++ cell 2 rs)
+laid Kind.FormalParameters texts ts rs = codes "(" ++ (commas (row 0 rs) ++ codes ")")
+laid Kind.FormalParameter texts ts rs = cell 0 rs
+laid Kind.FunctionBody texts ts rs = braces (codes " ") (row 1 rs)
+laid Kind.ReturnStatement texts ts rs = codes "return " ++ (cell 0 rs ++ codes ";")
+laid Kind.ExpressionStatement texts ts rs = cell 0 rs ++ codes ";"
+laid Kind.StringLiteral texts ts rs = quoted (first texts)
+laid Kind.CallExpression texts ts rs = cell 0 rs ++ (codes "(" ++ (commas (row 1 rs) ++ codes ")"))
+laid Kind.StaticMemberExpression texts ts rs = cell 0 rs ++ (codes "." ++ cell 1 rs)
+laid Kind.SequenceExpression texts ts rs = commas (row 0 rs)
+laid Kind.AwaitExpression texts ts rs = codes "await " ++ cell 0 rs
+laid Kind.ArrayExpression texts ts rs = codes "[" ++ (commas (row 0 rs) ++ codes "]")
+laid Kind.ObjectExpression texts ts rs = braces (codes ", ") (row 0 rs)
+laid Kind.ObjectProperty texts ts rs = property_laid texts (cell 0 rs) (cell 1 rs)
+laid Kind.ParenthesizedExpression texts ts rs = codes "(" ++ (cell 0 rs ++ codes ")")
+laid k texts ts rs = first texts
 
 abbrev mutual
   -- the printed parts of a term: none of an absent one, one of a node, each of a list
   pub pieces : Term → List Text
   pieces absent = []
   pieces (list ts) = all_pieces ts
-  pieces (node k texts ts) = laid k texts (rows ts) ∷ []
+  pieces (node k texts ts) = laid k texts ts (rows ts) ∷ []
 
   pub all_pieces : Terms → List Text
   all_pieces none = []

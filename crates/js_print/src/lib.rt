@@ -8,3 +8,6 @@ mod printer;
 mod strings;
 
 pub use printer::print_program;
+
+#[cfg(test)]
+mod tests;
