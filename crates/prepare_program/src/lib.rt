@@ -1,0 +1,15 @@
+//! The program's run: from the bytes of a request to the line that answers it.
+#![tactic(auto)]
+
+mod answering;
+mod fault;
+mod report;
+mod request;
+mod running;
+#[cfg(test)]
+mod tests;
+mod text;
+mod words;
+
+pub use running::run;
+pub use text::{PreparedText, TextFault, prepare_text};
