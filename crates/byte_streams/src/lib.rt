@@ -4,6 +4,8 @@
 mod memory;
 mod stream;
 mod sure;
+#[cfg(test)]
+mod tests;
 mod traits;
 mod transfer;
 
