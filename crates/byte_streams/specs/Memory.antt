@@ -1,5 +1,5 @@
 -- What a clause reads of a source and a sink in memory.
-use Rattle.std.specs.Prelude.{ℕ, List, take, drop}
+use Rattle.std.specs.Prelude.{ℕ, List, drop}
 use Rattle.byte_streams.specs.declared.memory.MemorySource.{MemorySource}
 use Rattle.byte_streams.specs.declared.memory.MemorySink.{MemorySink}
 

@@ -44,6 +44,7 @@ pub fn read_input<S: Source>(
         → IsCut (S.left source.old) (S.left source.new) limit }
     ensures taken { TakesAtMost (S.left source.old) (S.left source.new) (limit + 1) }
     ensures later { S.faults source.old ≤ S.faults source.new }
+    ensures kept { ¬ (IsErrOf result ReadFault.Failed) → S.faults source.new ≡ S.faults source.old }
     ensures failed { IsErrOf result ReadFault.Failed
         → Rose (S.faults source.old) (S.faults source.new) }
 {
@@ -70,6 +71,7 @@ fn read_pieces<S: Source>(
         → IsCut (S.left source.old) (S.left source.new) limit }
     ensures taken { TakesAtMost (S.left source.old) (S.left source.new) (limit + 1) }
     ensures later { S.faults source.old ≤ S.faults source.new }
+    ensures kept { ¬ (IsErrOf result ReadFault.Failed) → S.faults source.new ≡ S.faults source.old }
     ensures failed { IsErrOf result ReadFault.Failed
         → Rose (S.faults source.old) (S.faults source.new) }
 {

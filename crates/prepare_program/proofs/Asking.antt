@@ -1,10 +1,10 @@
 -- What a request is, from what a reader of JSON says of its bytes.
-use Rattle.std.proofs.Common.{◌≡◌, ℕ, List, Bool, true, false, cond, refl, ap, ◌∙◌, Some, None}
+use Rattle.std.proofs.Common.{◌≡◌, ℕ, List, true, false, cond, refl, ap, Some, None}
 use Rattle.std.specs.Str.{is_utf8, IsUtf8}
 use Rattle.std.proofs.lemmas.Str.{IsUtf8-from_is_utf8, is_utf8-from_IsUtf8}
 use Rattle.serde_json.specs.Data.{Data}
 use Rattle.serde_json.specs.Read.{read}
-use Rattle.prepare_program.specs.Request.{Asked, not_json, request, asked_of, asked_if_read}
+use Rattle.prepare_program.specs.Request.{not_json, request, asked_of, asked_if_read}
 
 pub request_read : (bytes : List ℕ) (value : Data) → IsUtf8 bytes → read bytes ≡ Some value → request bytes ≡ asked_of value
 unfolding request

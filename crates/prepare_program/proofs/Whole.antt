@@ -1,10 +1,8 @@
 -- The values that are written have no float, so their text is stated.
-use Rattle.std.proofs.Common.{◌≡◌, List, [], ◌∷◌, map, false, refl, ap, ◌∙◌}
+use Rattle.std.proofs.Common.{◌≡◌, List, [], ◌∷◌, false, refl, ap, ◌∙◌}
 use Rattle.std.specs.Prelude.{◌||◌}
 use Rattle.js_term.specs.Term.{Text}
-use Rattle.serde_json.specs.Data.{string}
-use Rattle.serde_json.specs.View.{items_of}
-use Rattle.serde_json.specs.Written.{has_float, items_have_float}
+use Rattle.serde_json.specs.Written.{has_float}
 use Rattle.prepare_program.specs.Report.{texts, report, Reason, not_json, bad_request, unread, fault_value}
 
 texts_are_whole : (all : List Text) → has_float (texts all) ≡ false

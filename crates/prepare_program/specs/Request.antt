@@ -1,5 +1,5 @@
 -- What a request asks for: one JSON object, whose member `module` is a text, and which has no other.
-use Rattle.std.specs.Prelude.{◌≡◌, ◌⊎◌, List, [], Bool, if◌then◌else◌, Option, None, Some, option_and_then, codes}
+use Rattle.std.specs.Prelude.{◌≡◌, ◌⊎◌, [], Bool, if◌then◌else◌, Option, None, Some, option_and_then, codes}
 use Rattle.std.specs.Str.{bytes_eq, is_utf8}
 use Rattle.js_term.specs.Term.{Text}
 use Rattle.serde_json.specs.Data.{Data, Members, no_members, member}

@@ -6,10 +6,12 @@ mod fault;
 mod report;
 mod request;
 mod running;
+mod sure;
 #[cfg(test)]
 mod tests;
 mod text;
 mod words;
 
 pub use running::run;
+pub use sure::run_surely;
 pub use text::{PreparedText, TextFault, prepare_text};

@@ -54,6 +54,8 @@ pub fn run<S: Source, K: Sink>(alloc: Global, words: &[String], source: &mut S, 
     ensures taken { TakesAtMost (S.left source.old) (S.left source.new) (limit + 1) }
     ensures source_faults { S.faults source.old ≤ S.faults source.new }
     ensures sink_faults { K.faults sink.old ≤ K.faults sink.new }
+    ensures no_read_failed { ¬ (result ≡ 3) → S.faults source.new ≡ S.faults source.old }
+    ensures no_write_failed { ¬ (result ≡ 4) → K.faults sink.new ≡ K.faults sink.old }
 
     // It doesn't give up by itself, but for want of memory. Which modules are refused, no clause says yet.
     ensures completes { IsPrepare words.now → ¬ (Rose (S.faults source.old) (S.faults source.new))
@@ -89,6 +91,8 @@ fn prepare<S: Source, K: Sink>(alloc: Global, source: &mut S, sink: &mut K) -> u
     ensures taken { TakesAtMost (S.left source.old) (S.left source.new) (limit + 1) }
     ensures source_faults { S.faults source.old ≤ S.faults source.new }
     ensures sink_faults { K.faults sink.old ≤ K.faults sink.new }
+    ensures no_read_failed { ¬ (result ≡ 3) → S.faults source.new ≡ S.faults source.old }
+    ensures no_write_failed { ¬ (result ≡ 4) → K.faults sink.new ≡ K.faults sink.old }
     ensures completes { ¬ (Rose (S.faults source.old) (S.faults source.new))
         → ¬ (Rose (K.faults sink.old) (K.faults sink.new)) → IfSome (S.left source.old) (λ given.
         length given ≤ limit → IsForModule given → (result ≡ 0) ⊎ (result ≡ 1) ⊎ (result ≡ 5)) }
@@ -115,6 +119,7 @@ fn write_answer<K: Sink>(alloc: Global, bytes: &[u8], sink: &mut K) -> u8
     ensures failed { result ≡ 4 → Rose (K.faults sink.old) (K.faults sink.new) }
     ensures unwritten { result ≡ 5 → sink.new ≡ sink.old }
     ensures faults { K.faults sink.old ≤ K.faults sink.new }
+    ensures no_write_failed { ¬ (result ≡ 4) → K.faults sink.new ≡ K.faults sink.old }
 {
     let Ok(line) = answer(alloc, bytes) else {
         return NO_MEMORY;

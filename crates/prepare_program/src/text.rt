@@ -34,8 +34,8 @@ impl From<AllocError> for TextFault {
 }
 
 /// Reads the module, and writes it as calls of the module runner.
-pub fn prepare_text(_alloc: Global, _text: &str) -> Result<PreparedText, TextFault>
-    ensures { IfOk result (λ made. IsPrepared _text.now (string_bytes made.module) made.deps.items made.dynamic_deps.items) }
+pub fn prepare_text(alloc: Global, text: &str) -> Result<PreparedText, TextFault>
+    ensures { IfOk result (λ made. IsPrepared text.now (string_bytes made.module) made.deps.items made.dynamic_deps.items) }
 {
     Err(TextFault::NoMemory)
 }

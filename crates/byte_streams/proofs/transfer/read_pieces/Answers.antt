@@ -1,5 +1,4 @@
-use Rattle.std.proofs.Common.{arith, ◌≡◌, ◌++◌, ◌∙◌, take, length, length-take, length-append, ap, sym, subst, rules, append-nil}
-use Rattle.std.specs.Io.KnownBytes.{Consumes}
+use Rattle.std.proofs.Common.{arith, ◌≡◌, ◌++◌, ◌∙◌, take, length-take, length-append, rules, refl}
 use Rattle.std.proofs.KnownBytes.{Consumes-nil, Consumes-trans}
 use Rattle.std.proofs.lemmas.List.{take-append-le}
 use Rattle.byte_streams.proofs.Bytes.{consumed_none}
@@ -9,7 +8,7 @@ pub loop-bytes-init : goal.loop-bytes-init
 loop-bytes-init g c = record {
   consumed = rw c.new-bytes.ensures.items (Consumes-nil _);
   within = rw c.new-bytes.ensures.items (omega arith);
-  later = omega arith;
+  kept = refl;
 }
 
 pub returns-then-count-eq0-clause-read : goal.returns-then-count-eq0-clause-read
@@ -27,7 +26,7 @@ loop-bytes-preserved g c =
     record {
       consumed = rw same (Consumes-trans _ _ _ _ _ c.loop-bytes.invariant.consumed c.in-Ok.ensures.bytes.0);
       within = rw same (omega (arith, length-append c.loop-bytes.bytes.items (take c.in-Ok.count c.read.new.into), length-take c.in-Ok.count c.read.new.into, c.read.auto.into, length-take c.min-want.result c.loop-bytes.piece));
-      later = omega (arith, c.in-Ok.ensures.cause.later);
+      kept = c.in-Ok.ensures.cause.kept ∙ c.loop-bytes.invariant.kept;
     }
 
 pub returns-in_err-extend_from_slice-clause-taken : goal.returns-in_err-extend_from_slice-clause-taken

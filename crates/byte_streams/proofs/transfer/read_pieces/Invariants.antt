@@ -6,7 +6,7 @@ abbrev pub invariant-loop-bytes : goal.invariant-loop-bytes
 invariant-loop-bytes g l = record {
   consumed : Consumes (g.S.Source.left l.initial.source) (g.S.Source.left l.source) l.bytes.items;
   within : length l.bytes.items ≤ l.limit + 1;
-  later : g.S.Source.faults l.initial.source ≤ g.S.Source.faults l.source;
+  kept : g.S.Source.faults l.source ≡ g.S.Source.faults l.initial.source;
 }
 
 abbrev pub decreases-loop-bytes : goal.decreases-loop-bytes

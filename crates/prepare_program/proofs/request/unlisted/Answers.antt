@@ -1,4 +1,4 @@
-use Rattle.std.proofs.Common.{rules, ◌∙◌, sym}
+use Rattle.std.proofs.Common.{rules}
 use Rattle.prepare_program.proofs.Names.{first_name-entries}
 use Rattle.prepare_program.proofs.request.unlisted.Goals as goal
 
