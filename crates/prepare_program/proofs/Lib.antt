@@ -1,0 +1,5 @@
+pub mod Names
+pub mod Whole
+pub mod Asking
+pub mod Given
+pub mod OneWord
