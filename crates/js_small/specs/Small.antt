@@ -1,0 +1,23 @@
+-- Form and names in one recursion, in the order in which the walk tests them.
+use Rattle.std.specs.Prelude.{List, [], ◌∷◌, Option, None, Some, Bool, true, false, ◌&&◌}
+use Rattle.js_term.specs.Term.{Text, Kind, Term, absent, list, node, Terms, none, more}
+use Rattle.js_term.specs.Scope.{role}
+use Rattle.js_term.specs.Form.{Place, takes_absent, takes_list, item_place, first_place, later_places, no_places, takes_kind, stands_small, allows, places, is_small_name, is_small_binding, is_distinct_inside}
+
+abbrev pub allowed : Kind → List Text → Bool
+allowed = allows is_small_name is_small_binding
+
+-- whether a term has the form that a place asks for, and no function in it declares a name twice
+abbrev mutual
+  pub small_at : Place → Term → Bool
+  small_at p absent = takes_absent p
+  small_at p (list ts) = takes_list p ts && small_each (item_place p) ts
+  small_at p (node k texts ts) = takes_kind stands_small allowed places p k && (allowed k texts && (small_places (places k texts) ts && is_distinct_inside (role k) ts))
+
+  pub small_each : Place → Terms → Bool
+  small_each p none = true
+  small_each p (more t ts) = small_at p t && small_each p ts
+
+  pub small_places : List Place → Terms → Bool
+  small_places ps none = no_places ps
+  small_places ps (more t ts) = small_at (first_place ps) t && small_places (later_places ps) ts

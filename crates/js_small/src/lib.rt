@@ -1,0 +1,7 @@
+//! Whether a module is small: one that the module runner takes.
+#![tactic(auto)]
+
+mod form;
+mod words;
+
+pub use words::{is_decimal, is_reserved, is_word};
