@@ -19,3 +19,6 @@ no_expression_word function_kind.FunctionExpression = refl
 
 pub no_function_expression : (n : Function) → small_at (form.one Sort.expression) (expression_term (expression.FunctionExpression n)) ≡ false
 no_function_expression n = rw (e_FunctionExpression n, function_parts n, no_expression_word n.kind) refl
+
+pub no_function_effect : (n : Function) → small_at (form.one Sort.effect) (expression_term (expression.FunctionExpression n)) ≡ false
+no_function_effect n = rw (e_FunctionExpression n, function_parts n, no_expression_word n.kind) refl

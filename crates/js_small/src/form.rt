@@ -1,22 +1,30 @@
 //! The form of small modules, one function for each sort of node.
 
-ghost use Rattle.std.specs.Prelude.{◌≡◌, map, option_map};
-ghost use Rattle.js_term.specs.Form.{one, many, Sort};
-ghost use Rattle.js_term.specs.Term.{all, maybe};
+ghost use Rattle.std.specs.Prelude.{◌≡◌, [], ◌∷◌, ◌&&◌, map, option_map, codes};
+ghost use Rattle.js_term.specs.Form.{one, Sort, stands_small};
+ghost use Rattle.js_term.specs.Term.{all, maybe, flag};
 ghost use Rattle.js_tree.specs.TermOf as tree;
-ghost use Rattle.js_small.specs.Small.{small_at, small_each};
+ghost use Rattle.js_small.specs.Small.{small_at, small_each, small_head, allowed};
 
 use crate::words::{is_decimal, is_small_binding, is_small_name, is_word};
 use js_tree::{
-    BindingIdentifier, BindingPattern, Expression, FormalParameter, ImportDeclaration,
-    ImportSpecifier, ModuleExportName, VariableDeclaration, VariableDeclarationKind,
-    VariableDeclarator,
+    BindingIdentifier, BindingPattern, Expression, FormalParameter, Function,
+    FunctionKind, ImportDeclaration, ImportSpecifier, ModuleExportName, ReturnStatement,
+    VariableDeclaration, VariableDeclarationKind, VariableDeclarator,
 };
 
 fn is_binding(n: &BindingIdentifier) -> bool
     ensures { result ≡ small_at (one Sort.binding) (tree.binding_term n.now) }
 {
     is_small_binding(n.name.as_str())
+}
+
+fn is_bound(pattern: &BindingPattern) -> bool
+    ensures { result ≡ small_at (one Sort.binding) (tree.pattern_term pattern.now) }
+{
+    match pattern {
+        BindingPattern::BindingIdentifier(n) => is_binding(n),
+    }
 }
 
 #[cycle(expression)]
@@ -54,4 +62,122 @@ fn are_expressions(items: &[Expression]) -> bool
         }
     }
     true
+}
+
+/// Whether the expression stands as a statement: a string alone would be a directive.
+#[tactic(auto, using(js_tree::proofs::Levels::e_BooleanLiteral, js_tree::proofs::Levels::e_NumericLiteral, js_tree::proofs::Levels::e_StringLiteral, js_tree::proofs::Levels::e_Identifier, js_tree::proofs::Levels::e_ArrayExpression, js_tree::proofs::Levels::e_AwaitExpression, js_tree::proofs::Levels::e_CallExpression, js_tree::proofs::Levels::e_ObjectExpression, js_tree::proofs::Levels::e_ParenthesizedExpression, js_tree::proofs::Levels::e_SequenceExpression, js_tree::proofs::Levels::e_StaticMemberExpression, crate::proofs::Forms::no_function_expression, crate::proofs::Forms::no_function_effect))]
+pub(crate) fn is_effect(e: &Expression) -> bool
+    ensures { result ≡ small_at (one Sort.effect) (tree.expression_term e.now) }
+{
+    match e {
+        Expression::StringLiteral(_) => false,
+        Expression::Identifier(_)
+        | Expression::NumericLiteral(_)
+        | Expression::CallExpression(_)
+        | Expression::StaticMemberExpression(_)
+        | Expression::BooleanLiteral(_)
+        | Expression::ArrayExpression(_)
+        | Expression::AwaitExpression(_)
+        | Expression::FunctionExpression(_)
+        | Expression::ObjectExpression(_)
+        | Expression::ParenthesizedExpression(_)
+        | Expression::SequenceExpression(_) => is_expression(e),
+    }
+}
+
+pub(crate) fn is_return(n: &ReturnStatement) -> bool
+    ensures { result ≡ small_at (one Sort.statement) (tree.return_term tree.expression_term n.now) }
+{
+    match &n.argument {
+        None => false,
+        Some(e) => is_expression(e.get()),
+    }
+}
+
+#[tactic(auto, using(js_tree::proofs::Levels::declarator_parts))]
+fn is_declarator(n: &VariableDeclarator) -> bool
+    ensures { result ≡ small_at (one Sort.declarator) (tree.declarator_term n.now) }
+{
+    match &n.init {
+        None => false,
+        Some(e) => is_bound(&n.id) && is_expression(e.get()),
+    }
+}
+
+/// Whether it declares one constant.
+pub(crate) fn is_constant(n: &VariableDeclaration) -> bool
+    ensures { result ≡ small_at (one Sort.declaration) (tree.variables_term tree.declarator_term n.now) }
+{
+    match (n.kind, n.declarations.as_slice()) {
+        (VariableDeclarationKind::Const, [one]) => is_declarator(one),
+        _ => false,
+    }
+}
+
+fn are_parameters(items: &[FormalParameter]) -> bool
+    ensures { result ≡ small_each (one Sort.parameter) (all (map tree.parameter_term items.now)) }
+{
+    for item in items {
+        if !is_bound(&item.pattern) {
+            return false;
+        }
+    }
+    true
+}
+
+fn is_name_of_function(id: &Option<BindingIdentifier>) -> bool
+    ensures { result ≡ small_at (one Sort.binding) (maybe (option_map tree.binding_term id.now)) }
+{
+    match id {
+        None => false,
+        Some(id) => is_binding(id),
+    }
+}
+
+fn is_plain_declaration(n: &Function) -> bool
+    ensures { result ≡ (stands_small Sort.declaration (tree.function_word n.now.kind) && allowed (tree.function_word n.now.kind) (flag n.now.is_async (codes "async") ∷ flag n.now.is_generator (codes "*") ∷ [])) }
+{
+    match n.kind {
+        FunctionKind::FunctionDeclaration => !n.is_async && !n.is_generator,
+        FunctionKind::FunctionExpression => false,
+    }
+}
+
+/// Whether the function is a declaration that is small but for its statements and its names.
+pub(crate) fn has_small_head(n: &Function) -> bool
+    ensures { result ≡ small_head n.now }
+{
+    is_plain_declaration(n)
+        && is_name_of_function(&n.id)
+        && are_parameters(n.params.items.as_slice())
+        && n.body.directives.as_slice().is_empty()
+}
+
+fn is_export_name(n: &ModuleExportName) -> bool
+    ensures { result ≡ small_at (one Sort.name) (tree.export_name_term n.now) }
+{
+    match n {
+        ModuleExportName::IdentifierName(n) => is_word(n.name.as_str()),
+        ModuleExportName::IdentifierReference(_) | ModuleExportName::StringLiteral(_) => false,
+    }
+}
+
+fn are_specifiers(items: &[ImportSpecifier]) -> bool
+    ensures { result ≡ small_each (one Sort.specifier) (all (map tree.specifier_term items.now)) }
+{
+    for item in items {
+        if !is_export_name(&item.imported) || !is_binding(&item.local) {
+            return false;
+        }
+    }
+    true
+}
+
+pub(crate) fn is_import(n: &ImportDeclaration) -> bool
+    ensures { result ≡ small_at (one Sort.item) (tree.import_term n.now) }
+{
+    match &n.specifiers {
+        None => false,
+        Some(list) => !list.is_empty() && are_specifiers(list.as_slice()),
+    }
 }
