@@ -1,8 +1,8 @@
 -- The form of each node, by the forms of its parts.
-use Rattle.std.proofs.Common.{◌≡◌, refl, List, [], ◌∷◌, Option, None, Some, Bool, true, false, map, codes}
+use Rattle.std.proofs.Common.{◌≡◌, ◌≤◌, refl, length, arith, List, [], ◌∷◌, Option, None, Some, Bool, true, false, map, codes}
 use Rattle.std.specs.Prelude.{option_map}
 use Rattle.js_term.specs.Term.{Text, Term, Kind, absent, list, node, Terms, none, more, one, two, all, maybe, flag}
-use Rattle.js_term.specs.Form.{Sort, is_small_expression}
+use Rattle.js_term.specs.Form.{Sort, some, single, empty, takes_list, is_small_expression}
 use Rattle.js_term.specs.Form as form
 use Rattle.js_tree.specs.TermOf.{expression_term, function_term}
 use Rattle.js_tree.specs.declared.function.Function.{Function}
@@ -22,3 +22,18 @@ no_function_expression n = rw (e_FunctionExpression n, function_parts n, no_expr
 
 pub no_function_effect : (n : Function) → small_at (form.one Sort.effect) (expression_term (expression.FunctionExpression n)) ≡ false
 no_function_effect n = rw (e_FunctionExpression n, function_parts n, no_expression_word n.kind) refl
+
+-- how many items a list takes
+
+pub takes_none : {A : Type 0} (f : A → Term) (xs : List A) → 1 ≤ length xs → takes_list empty (all (map f xs)) ≡ false
+takes_none f [] h = absurd (omega arith)
+takes_none f (x ∷ xs) h = refl
+
+pub takes_some : {A : Type 0} (s : Sort) (f : A → Term) (xs : List A) → 1 ≤ length xs → takes_list (some s) (all (map f xs)) ≡ true
+takes_some s f [] h = absurd (omega arith)
+takes_some s f (x ∷ xs) h = refl
+
+pub takes_one : {A : Type 0} (s : Sort) (f : A → Term) (xs : List A) → 2 ≤ length xs → takes_list (single s) (all (map f xs)) ≡ false
+takes_one s f [] h = absurd (omega arith)
+takes_one s f (x ∷ []) h = absurd (omega arith)
+takes_one s f (x ∷ y ∷ xs) h = refl

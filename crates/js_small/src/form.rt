@@ -1,15 +1,15 @@
 //! The form of small modules, one function for each sort of node.
 
 ghost use Rattle.std.specs.Prelude.{◌≡◌, [], ◌∷◌, ◌&&◌, map, option_map, codes};
-ghost use Rattle.js_term.specs.Form.{one, Sort, stands_small};
-ghost use Rattle.js_term.specs.Term.{all, maybe, flag};
+ghost use Rattle.js_term.specs.Form.{one, single, some, empty, takes_list, Sort, stands_small};
+ghost use Rattle.js_term.specs.Term.{list, all, maybe, flag};
 ghost use Rattle.js_tree.specs.TermOf as tree;
 ghost use Rattle.js_small.specs.Small.{small_at, small_each, small_head, allowed};
 
 use crate::words::{is_decimal, is_small_binding, is_small_name, is_word};
 use js_tree::{
-    BindingIdentifier, BindingPattern, Expression, FormalParameter, Function,
-    FunctionKind, ImportDeclaration, ImportSpecifier, ModuleExportName, ReturnStatement,
+    BindingIdentifier, BindingPattern, Boxed, Directive, Expression, FormalParameter, Function,
+    FunctionKind, ImportDeclaration, ImportSpecifier, Items, ModuleExportName, ReturnStatement,
     VariableDeclaration, VariableDeclarationKind, VariableDeclarator,
 };
 
@@ -85,22 +85,36 @@ pub(crate) fn is_effect(e: &Expression) -> bool
     }
 }
 
-pub(crate) fn is_return(n: &ReturnStatement) -> bool
-    ensures { result ≡ small_at (one Sort.statement) (tree.return_term tree.expression_term n.now) }
+fn is_value(value: &Option<Boxed<Expression>>) -> bool
+    ensures { result ≡ small_at (one Sort.expression) (maybe (option_map tree.expression_term value.now)) }
 {
-    match &n.argument {
+    match value {
         None => false,
         Some(e) => is_expression(e.get()),
     }
+}
+
+pub(crate) fn is_return(n: &ReturnStatement) -> bool
+    ensures { result ≡ small_at (one Sort.statement) (tree.return_term tree.expression_term n.now) }
+{
+    is_value(&n.argument)
 }
 
 #[tactic(auto, using(js_tree::proofs::Levels::declarator_parts))]
 fn is_declarator(n: &VariableDeclarator) -> bool
     ensures { result ≡ small_at (one Sort.declarator) (tree.declarator_term n.now) }
 {
-    match &n.init {
-        None => false,
-        Some(e) => is_bound(&n.id) && is_expression(e.get()),
+    is_bound(&n.id) && is_value(&n.init)
+}
+
+#[tactic(auto, using(crate::proofs::Forms::takes_one))]
+fn is_one_declarator(items: &[VariableDeclarator]) -> bool
+    ensures { result ≡ small_at (single Sort.declarator) (list (all (map tree.declarator_term items.now))) }
+{
+    match items {
+        [] => false,
+        [item] => is_declarator(item),
+        [_, _, ..] => false,
     }
 }
 
@@ -108,9 +122,9 @@ fn is_declarator(n: &VariableDeclarator) -> bool
 pub(crate) fn is_constant(n: &VariableDeclaration) -> bool
     ensures { result ≡ small_at (one Sort.declaration) (tree.variables_term tree.declarator_term n.now) }
 {
-    match (n.kind, n.declarations.as_slice()) {
-        (VariableDeclarationKind::Const, [one]) => is_declarator(one),
-        _ => false,
+    match n.kind {
+        VariableDeclarationKind::Const => is_one_declarator(n.declarations.as_slice()),
+        VariableDeclarationKind::Let | VariableDeclarationKind::Var => false,
     }
 }
 
@@ -143,6 +157,16 @@ fn is_plain_declaration(n: &Function) -> bool
     }
 }
 
+#[tactic(auto, using(crate::proofs::Forms::takes_none))]
+fn are_none(items: &[Directive]) -> bool
+    ensures { result ≡ takes_list empty (all (map tree.directive_term items.now)) }
+{
+    match items {
+        [] => true,
+        [_, ..] => false,
+    }
+}
+
 /// Whether the function is a declaration that is small but for its statements and its names.
 pub(crate) fn has_small_head(n: &Function) -> bool
     ensures { result ≡ small_head n.now }
@@ -150,7 +174,7 @@ pub(crate) fn has_small_head(n: &Function) -> bool
     is_plain_declaration(n)
         && is_name_of_function(&n.id)
         && are_parameters(n.params.items.as_slice())
-        && n.body.directives.as_slice().is_empty()
+        && are_none(n.body.directives.as_slice())
 }
 
 fn is_export_name(n: &ModuleExportName) -> bool
@@ -173,11 +197,27 @@ fn are_specifiers(items: &[ImportSpecifier]) -> bool
     true
 }
 
+#[tactic(auto, using(crate::proofs::Forms::takes_some))]
+fn are_some_specifiers(items: &[ImportSpecifier]) -> bool
+    ensures { result ≡ small_at (some Sort.specifier) (tree.specifiers_term items.now) }
+{
+    match items {
+        [] => false,
+        [_, ..] => are_specifiers(items),
+    }
+}
+
+fn imports_names(specifiers: &Option<Items<ImportSpecifier>>) -> bool
+    ensures { result ≡ small_at (some Sort.specifier) (maybe (option_map tree.specifiers_term specifiers.now)) }
+{
+    match specifiers {
+        None => false,
+        Some(items) => are_some_specifiers(items.as_slice()),
+    }
+}
+
 pub(crate) fn is_import(n: &ImportDeclaration) -> bool
     ensures { result ≡ small_at (one Sort.item) (tree.import_term n.now) }
 {
-    match &n.specifiers {
-        None => false,
-        Some(list) => !list.is_empty() && are_specifiers(list.as_slice()),
-    }
+    imports_names(&n.specifiers)
 }
