@@ -1,1 +1,4 @@
+pub mod Declares
+pub mod Distinct
 pub mod Forms
+pub mod Single

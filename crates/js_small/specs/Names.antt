@@ -37,6 +37,10 @@ abbrev pub declared_names : List Statement → List Text
 declared_names [] = []
 declared_names (s ∷ ss) = with_name (declared_name s) (declared_names ss)
 
+abbrev pub items_of : Option (List ImportSpecifier) → List ImportSpecifier
+items_of None = []
+items_of (Some ns) = ns
+
 -- what the specifiers of an import bind, of its term
 abbrev pub locals : Terms → List Text
 locals none = []
@@ -58,3 +62,8 @@ imported_names (s ∷ ss) = imported (statement_term s) ++ imported_names ss
 abbrev pub apart : List Text → List Text → Bool
 apart [] ys = true
 apart (x ∷ xs) ys = not (is_one_of x xs || is_one_of x ys) && apart xs ys
+
+-- whether a name, if there is one, is among others
+abbrev pub is_again : Option Text → List Text → Bool
+is_again None ys = false
+is_again (Some x) ys = is_one_of x ys

@@ -2,6 +2,8 @@
 #![tactic(auto)]
 
 mod form;
+mod names;
+mod repeats;
 mod words;
 
 pub use words::{is_decimal, is_reserved, is_word};
