@@ -2,3 +2,4 @@ pub mod Declares
 pub mod Distinct
 pub mod Forms
 pub mod Single
+pub mod Small

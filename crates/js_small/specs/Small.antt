@@ -2,9 +2,10 @@
 use Rattle.std.specs.Prelude.{List, [], ◌∷◌, Option, None, Some, option_map, map, Bool, true, false, ◌&&◌, codes}
 use Rattle.js_term.specs.Term.{Text, Kind, Term, absent, list, node, Terms, none, more, all, maybe, flag}
 use Rattle.js_term.specs.Scope.{role}
-use Rattle.js_term.specs.Form.{Sort, Place, one, empty, takes_absent, takes_list, item_place, first_place, later_places, no_places, takes_kind, stands_small, allows, places, is_small_name, is_small_binding, is_distinct_inside}
-use Rattle.js_tree.specs.TermOf.{function_word, binding_term, parameter_term, directive_term}
+use Rattle.js_term.specs.Form.{Sort, Place, one, empty, takes_absent, takes_list, item_place, first_place, later_places, no_places, no_texts, takes_kind, stands_small, allows, places, is_small_name, is_small_binding, is_distinct_inside}
+use Rattle.js_tree.specs.TermOf.{function_word, binding_term, parameter_term, directive_term, hashbang_texts}
 use Rattle.js_tree.specs.declared.function.Function.{Function}
+use Rattle.js_tree.specs.declared.module.Program.{Program}
 
 abbrev pub allowed : Kind → List Text → Bool
 allowed = allows is_small_name is_small_binding
@@ -27,3 +28,7 @@ abbrev mutual
 -- what a function declaration is beside its statements and its names
 abbrev pub small_head : Function → Bool
 small_head n = stands_small Sort.declaration (function_word n.kind) && (allowed (function_word n.kind) (flag n.is_async (codes "async") ∷ flag n.is_generator (codes "*") ∷ []) && (small_at (one Sort.binding) (maybe (option_map binding_term n.id)) && (small_each (one Sort.parameter) (all (map parameter_term n.params.items)) && takes_list empty (all (map directive_term n.body.directives)))))
+
+-- what a module is beside its statements and its names
+abbrev pub small_front : Program → Bool
+small_front n = no_texts (hashbang_texts n.hashbang) && takes_list empty (all (map directive_term n.directives))

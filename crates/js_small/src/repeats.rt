@@ -58,7 +58,7 @@ fn imports(s: &Statement, name: &Ident) -> bool
     is_local(specifiers_of(s), name)
 }
 
-#[tactic(auto, using(crate::proofs::Distinct::one_of_append))]
+#[tactic(auto, using(crate::proofs::Distinct::one_of_append, std::proofs::lemmas::Grind::common_steps))]
 fn is_imported(items: &[Statement], name: &Ident) -> bool
     ensures { result ≡ is_one_of name.now (names.imported_names items.now) }
 {
@@ -115,7 +115,7 @@ fn is_import_apart(s: &Statement, imports: &[Statement], statements: &[Statement
     are_locals_apart(specifiers_of(s), imports, statements)
 }
 
-#[tactic(auto, using(crate::proofs::Distinct::apart_append))]
+#[tactic(auto, using(crate::proofs::Distinct::apart_append, std::proofs::lemmas::Grind::common_steps))]
 fn are_imports_apart(items: &[Statement], statements: &[Statement]) -> bool
     ensures { result ≡ names.apart (names.imported_names items.now) (names.declared_names statements.now) }
 {
