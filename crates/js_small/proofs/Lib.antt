@@ -1,5 +1,5 @@
+pub mod Agree
 pub mod Declares
 pub mod Distinct
 pub mod Forms
 pub mod Single
-pub mod Small

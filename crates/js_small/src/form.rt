@@ -1,15 +1,15 @@
 //! The form of small modules, one function for each sort of node.
 
 ghost use Rattle.std.specs.Prelude.{◌≡◌, [], ◌∷◌, ◌&&◌, map, option_map, codes};
-ghost use Rattle.js_term.specs.Form.{one, single, some, empty, takes_list, Sort, stands_small};
+ghost use Rattle.js_term.specs.Form.{one, single, some, empty, no_texts, takes_list, Sort, stands_small};
 ghost use Rattle.js_term.specs.Term.{list, all, maybe, flag};
 ghost use Rattle.js_tree.specs.TermOf as tree;
-ghost use Rattle.js_small.specs.Small.{small_at, small_each, small_head, allowed};
+ghost use Rattle.js_small.specs.Small.{small_at, small_each, small_head, small_front, allowed};
 
 use crate::words::{is_decimal, is_small_binding, is_small_name, is_word};
 use js_tree::{
     BindingIdentifier, BindingPattern, Boxed, Directive, Expression, FormalParameter, Function,
-    FunctionKind, ImportDeclaration, ImportSpecifier, Items, ModuleExportName, ReturnStatement,
+    FunctionKind, Ident, ImportDeclaration, ImportSpecifier, Items, ModuleExportName, Program, ReturnStatement,
     VariableDeclaration, VariableDeclarationKind, VariableDeclarator,
 };
 
@@ -220,4 +220,20 @@ pub(crate) fn is_import(n: &ImportDeclaration) -> bool
     ensures { result ≡ small_at (one Sort.item) (tree.import_term n.now) }
 {
     imports_names(&n.specifiers)
+}
+
+fn is_without(hashbang: &Option<Ident>) -> bool
+    ensures { result ≡ no_texts (tree.hashbang_texts hashbang.now) }
+{
+    match hashbang {
+        None => true,
+        Some(_) => false,
+    }
+}
+
+/// Whether the module has no hashbang line and no directives.
+pub(crate) fn has_small_front(n: &Program) -> bool
+    ensures { result ≡ small_front n.now }
+{
+    is_without(&n.hashbang) && are_none(n.directives.as_slice())
 }
