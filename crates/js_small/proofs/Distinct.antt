@@ -1,5 +1,5 @@
 -- Lists of names that differ from each other.
-use Rattle.std.proofs.Common.{◌≡◌, refl, ◌∙◌, ap, sym, List, [], ◌∷◌, ◌++◌, Option, None, Some, Bool, true, false, not, ◌&&◌, ◌||◌}
+use Rattle.std.proofs.Common.{◌≡◌, refl, ◌∙◌, ap, sym, append_assoc, List, [], ◌∷◌, ◌++◌, Option, None, Some, Bool, true, false, not, ◌&&◌, ◌||◌}
 use Rattle.js_term.specs.Term.{Text, is_text}
 use Rattle.js_term.specs.Lexeme.{is_one_of}
 use Rattle.js_term.specs.Form.{is_distinct}
@@ -36,3 +36,7 @@ one_of_named x (Some z) ys = one_of_append x (z ∷ []) ys
 pub distinct_named : (n : Option Text) (ys : List Text) → is_distinct (with_name n ys) ≡ (not (is_again n ys) && is_distinct ys)
 distinct_named None ys = refl
 distinct_named (Some z) ys = refl
+
+pub with_name_append : (n : Option Text) (out ys : List Text) → (out ++ with_name n []) ++ ys ≡ out ++ with_name n ys
+with_name_append None out ys = append_assoc out [] ys
+with_name_append (Some z) out ys = append_assoc out (z ∷ []) ys

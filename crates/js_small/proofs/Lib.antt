@@ -2,4 +2,5 @@ pub mod Agree
 pub mod Declares
 pub mod Distinct
 pub mod Forms
+pub mod NamesKnown
 pub mod Single
