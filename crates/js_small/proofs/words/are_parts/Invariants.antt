@@ -1,0 +1,7 @@
+use Rattle.std.proofs.Common.{◌≡◌, drop}
+use Rattle.std.specs.List.{list_all}
+use Rattle.js_term.specs.Lexeme.{is_part}
+use Rattle.js_small.proofs.words.are_parts.Given as goal
+
+abbrev pub invariant-loop-byte : goal.invariant-loop-byte
+invariant-loop-byte l = list_all is_part l.bytes ≡ list_all is_part (drop l.byte-index l.bytes)
