@@ -1,5 +1,5 @@
 -- What stands at the front of a text stands there behind a blank or a line end, too.
-use Rattle.std.proofs.Common.{◌≡◌, refl, ◌∙◌, ℕ, List, ◌∷◌, Bool, true, false}
+use Rattle.std.proofs.Common.{◌≡◌, refl, ◌∙◌, ℕ, List, ◌∷◌, true}
 use Rattle.js_term.specs.Term.{Text, Term}
 use Rattle.js_term.specs.Lexeme.{whole, is_blank, opens_otherwise}
 use Rattle.js_term.specs.Spells.{Stands, identifier, boolean, numeric, string_literal, parenthesized, call, member, await_expression, array, object, Listed, last, and, Names, last_name, and_name, Property, init, method, Statement, declaration, returns, expression, Declaration, constant, function, Specifier, renamed, unrenamed, Item, statement, imports, exports}

@@ -1,12 +1,11 @@
 -- The characters of a string are escaped byte by byte.
-use Rattle.std.proofs.Common.{◌≡◌, ◌≢◌, refl, sym, ◌∙◌, ap, ℕ, ◌+◌, ◌/◌, ◌%◌, ◌≤◌, ◌<◌, List, [], ◌∷◌, ◌++◌, Bool, true, false, cond, nat_eq, nat_lt, arith, append_assoc}
+use Rattle.std.proofs.Common.{◌≡◌, refl, sym, ◌∙◌, ap, ℕ, ◌+◌, ◌/◌, ◌≤◌, List, [], ◌∷◌, ◌++◌, Bool, true, false, cond, nat_eq, nat_lt, arith, append_assoc}
 use Rattle.std.proofs.lemmas.Bool.{eqb-true, ltb-true, ltb-false, le-ltb}
 use Rattle.std.proofs.lemmas.Str.{encode_ascii, encodes-append}
 use Rattle.js_term.specs.Term.{Text}
 use lib.Utf8.{encode, encodes, next}
 use Rattle.std.proofs.lemmas.List.{append-nil}
 use Rattle.js_print.specs.Layout.{escaped, all_escaped}
-use Rattle.js_print.proofs.Fit.{differ}
 
 no_equal : (c d : ℕ) → (c ≡ d → ⊥) → nat_eq c d ≡ false
 no_equal c d f = by (nat_eq c d) refl

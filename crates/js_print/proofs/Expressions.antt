@@ -1,21 +1,21 @@
 -- What stands for each kind of expression, from what is claimed of its parts.
-use Rattle.std.proofs.Common.{◌≡◌, refl, sym, ◌∙◌, ap, subst, ℕ, suc, ◌≤◌, List, [], ◌∷◌, ◌++◌, Bool, true, false, ◌&&◌, ◌||◌, not, lit≤, arith, append_assoc, ◌⊎◌, inl, inr}
+use Rattle.std.proofs.Common.{◌≡◌, refl, sym, ◌∙◌, ap, subst, ℕ, ◌≤◌, List, [], ◌∷◌, ◌++◌, Bool, true, false, ◌||◌, not, lit≤, arith, append_assoc}
 use Rattle.std.proofs.lemmas.List.{append-nil}
 use Rattle.std.proofs.lemmas.Bool.{ltb-false, le-ltb}
 use Rattle.std.specs.Prelude.{codes}
-use Rattle.js_term.specs.Term.{Text, is_text, Kind, Term, absent, list, node, Terms, none, more, one, two, all}
+use Rattle.js_term.specs.Term.{Text, is_text, Kind, Term, absent, list, node, Terms, none, more, one, two}
 use Rattle.js_term.specs.Lexeme.{whole, is_word, is_decimal, is_reserved, not_next, goes_on, goes_on_number, is_start, is_part, is_digit, between}
-use Rattle.js_term.specs.Node.{name_of, binding_of, string_of, call_of, member_of, sequence_of, await_of, array_of, object_of}
-use Rattle.js_term.specs.Spells.{level, joined, Stands, identifier, boolean, numeric, string_literal, call, member, await_expression, array, object, Listed, last, and, Group, no_items, some_items, Properties, no_properties, last_property, and_property, Property}
+use Rattle.js_term.specs.Node.{name_of, binding_of, string_of, call_of, member_of, sequence_of, array_of}
+use Rattle.js_term.specs.Spells.{level, Stands, identifier, boolean, numeric, string_literal, call, member, await_expression, array, Listed, last, and, Group, no_items, some_items}
 use Rattle.js_term.specs.Form.{Sort, is_binding_name, one_text, is_off, is_truth, no_texts, many, several}
 use Rattle.js_term.specs.Form as form
-use Rattle.js_print.specs.Layout.{pieces, all_pieces, printed, commas, behind, separated, is_looser, is_number, held, held_kids, wrapped, braces}
-use Rattle.js_print.proofs.Lexemes.{word_token, number_token, string_token, sign_token, behind_gap}
-use Rattle.js_print.proofs.Blanks.{gap_stands, gap_listed, gap_property}
+use Rattle.js_print.specs.Layout.{pieces, all_pieces, printed, commas, behind, is_looser, is_number, held, held_kids, wrapped}
+use Rattle.js_print.proofs.Lexemes.{word_token, number_token, string_token, sign_token}
+use Rattle.js_print.proofs.Blanks.{gap_stands, gap_listed}
 use Rattle.js_print.proofs.Fit.{differ, and_left, and_right, fit, fit_each, fit_places, no_parts, one_part, two_parts, many_part, several_part, text_alone, text_none}
 use Rattle.std.specs.List.{list_all}
 use Rattle.js_print.proofs.Leads.{blank_fails, tens_digit}
-use Rattle.js_print.proofs.Standing.{true_not, text_same, expression, Standing, Lists, Claims, AllClaims, moved, held_level, held_piece, held_stands, listing, all_listing, ends, ends_by, is_fresh, fresh_append, held_fresh}
+use Rattle.js_print.proofs.Standing.{true_not, text_same, expression, Standing, Lists, AllClaims, moved, held_level, held_piece, held_stands, listing, all_listing, ends, ends_by, is_fresh, fresh_append, held_fresh}
 
 pub or_left : (a b : Bool) → (a || b) ≡ false → a ≡ false
 or_left true b h = h

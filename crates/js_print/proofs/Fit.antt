@@ -1,7 +1,7 @@
 -- The parts of a node that fits a place.
-use Rattle.std.proofs.Common.{◌≡◌, refl, sym, ◌∙◌, ap, List, [], ◌∷◌, Bool, true, false, ◌&&◌}
+use Rattle.std.proofs.Common.{◌≡◌, refl, sym, ◌∙◌, List, [], ◌∷◌, Bool, true, false, ◌&&◌}
 use mathlib.Core.Bool.{true≢false}
-use Rattle.js_term.specs.Term.{Text, Kind, Term, absent, list, node, Terms, none, more, one, two}
+use Rattle.js_term.specs.Term.{Text, Term, absent, list, node, Terms, none, more, one, two}
 use Rattle.js_term.specs.Form.{Sort, Place, nothing, many, some, single, several, empty, nowhere, fits, fits_each, fits_places, stands_printable, allows, is_binding_name, places, one_text, no_texts, takes_list}
 use Rattle.js_term.specs.Form as form
 

@@ -1,11 +1,11 @@
 -- An expression that does not lead with a brace or `function` does not begin so in its text.
-use Rattle.std.proofs.Common.{◌≡◌, refl, sym, ◌∙◌, ap, subst, ℕ, List, [], ◌∷◌, ◌++◌, Bool, true, false, ◌&&◌, ◌||◌, not, nat_eq, nat_lt, ◌≤◌, arith, map, ◌⊎◌, inl, inr}
+use Rattle.std.proofs.Common.{◌≡◌, refl, sym, ◌∙◌, ap, ℕ, List, [], ◌∷◌, ◌++◌, Bool, true, false, ◌||◌, not, nat_eq, nat_lt, ◌≤◌, arith, map, ◌⊎◌, inl, inr}
 use Rattle.std.specs.Prelude.{codes}
 use Rattle.std.specs.List.{list_all}
 use Rattle.std.specs.Cmp.Lexicographic.{bytes_decides}
 use Rattle.std.proofs.lemmas.Bool.{eqb-true, ltb-false, le-ltb}
 use Rattle.js_term.specs.Term.{Text, is_text, Term}
-use Rattle.js_term.specs.Lexeme.{whole, Token, Lexeme, word, number, string, sign, IsSpelled, is_name, is_number, is_string, is_mark, is_word, is_decimal, is_reserved, is_one_of, is_blank, is_start, is_part, is_digit, is_line_end, between, is_quote, goes_on, not_next, front, first_word, is_next, opens_otherwise}
+use Rattle.js_term.specs.Lexeme.{whole, Token, word, number, string, sign, IsSpelled, is_name, is_number, is_string, is_mark, is_word, is_decimal, is_reserved, is_one_of, is_blank, is_start, is_part, is_digit, is_line_end, between, is_quote, goes_on, not_next, front, first_word, opens_otherwise}
 use Rattle.js_term.specs.Spells.{Stands, identifier, boolean, numeric, string_literal, parenthesized, call, member, await_expression, array, object, Listed, last, and, joined}
 use Rattle.js_print.specs.Layout.{leads}
 use Rattle.js_print.proofs.Fit.{differ, and_left, and_right}

@@ -1,8 +1,8 @@
 -- Tokens at the front of printed texts.
-use Rattle.std.proofs.Common.{◌≡◌, refl, sym, ◌∙◌, ap, subst, ℕ, List, [], ◌∷◌, ◌++◌, Bool, true, false, nat_eq, append_assoc, Option, None, Some}
+use Rattle.std.proofs.Common.{◌≡◌, refl, sym, ap, ℕ, [], ◌∷◌, ◌++◌, Bool, true, false, nat_eq, Some}
 use Rattle.std.proofs.lemmas.Bool.{eqb-true}
 use Rattle.js_term.specs.Term.{Text}
-use Rattle.js_term.specs.Lexeme.{Token, Lexeme, word, number, string, sign, whole, IsSpelled, is_name, is_number, is_string, is_mark, Characters, no_more, plain, escape, is_word, is_decimal, is_sign, is_plain, is_blank, unescaped, not_next, goes_on, goes_on_number}
+use Rattle.js_term.specs.Lexeme.{Token, Lexeme, word, number, string, sign, whole, is_name, is_number, is_string, is_mark, Characters, no_more, plain, escape, is_word, is_decimal, is_sign, is_plain, is_blank, not_next, goes_on, goes_on_number}
 use Rattle.js_print.specs.Layout.{escaped, all_escaped, quoted}
 
 pub word_token : (x rest : Text) → is_word x ≡ true → not_next goes_on rest ≡ true → Token whole (x ++ rest) (word x) rest

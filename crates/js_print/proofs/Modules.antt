@@ -1,21 +1,19 @@
 -- What stands for bodies, properties, statements and modules.
-use Rattle.std.proofs.Common.{◌≡◌, refl, sym, ◌∙◌, ap, subst, ℕ, suc, ◌≤◌, List, [], ◌∷◌, ◌++◌, Bool, true, false, ◌&&◌, ◌||◌, not, lit≤, append_assoc}
-use Rattle.std.proofs.lemmas.List.{append-nil}
+use Rattle.std.proofs.Common.{◌≡◌, refl, sym, ◌∙◌, ap, subst, ℕ, List, [], ◌∷◌, ◌++◌, Bool, true, false, ◌&&◌, ◌||◌, lit≤, append_assoc}
 use Rattle.std.specs.Prelude.{codes}
-use Rattle.js_term.specs.Term.{Text, is_text, Kind, Term, absent, list, node, Terms, none, more, one, two, all}
-use Rattle.js_term.specs.Lexeme.{whole, is_word, is_reserved, is_one_of, not_next, goes_on, goes_on_number, opens_otherwise}
-use Rattle.js_term.specs.Node.{name_of, binding_of, string_of, property_of, method_property_of, object_of, parameters_of, body_of, function_of, const_of, return_of, statement_of, specifier_of, import_declaration_of, export_declaration_of, program_of, parenthesized_of}
-use Rattle.js_term.specs.Spells.{level, joined, is_string_literal, Stands, parenthesized, object, Listed, last, Parameters, Properties, no_properties, last_property, and_property, Property, init, method, Body, body, Statements, no_statements, next_statement, Statement, declaration, returns, expression, Declaration, constant, function, Specifier, renamed, unrenamed, Specifiers, no_specifiers, last_specifier, and_specifier, Item, statement, imports, exports, Items, no_more_items, next_item, Spells, spells}
+use Rattle.js_term.specs.Term.{Text, is_text, Kind, Term, absent, list, node, Terms, none, more, two, all}
+use Rattle.js_term.specs.Lexeme.{whole, is_word, is_one_of, not_next, goes_on_number}
+use Rattle.js_term.specs.Node.{name_of, property_of, method_property_of, parameters_of, body_of}
+use Rattle.js_term.specs.Spells.{Parameters, Property, init, method, Body, body, Statements, no_statements, next_statement}
 use Rattle.js_term.specs.Form.{Sort, Place, one_text, no_texts, two_flags, is_property, property_places, many, some, single, empty, nothing, is_printable}
 use Rattle.js_term.specs.Form as form
-use Rattle.js_print.specs.Layout.{laid, pieces, all_pieces, rows, printed, commas, behind, separated, braces, lines, renamed_text, is_looser, leads, needs, no_need, in_parentheses, held, held_kids, wrapped}
-use Rattle.js_print.proofs.Lexemes.{word_token, string_token, sign_token, behind_gap}
-use Rattle.js_print.proofs.Blanks.{gap_stands, gap_listed, gap_property, gap_statement, gap_declaration, gap_specifier, gap_item}
-use Rattle.js_print.proofs.Fit.{differ, and_left, and_right, fit, fit_each, fit_places, no_parts, one_part, two_parts, three_parts, absent_part, empty_part, many_part, some_part, single_part, text_alone, text_none}
-use Rattle.js_print.proofs.Leads.{listed_opens}
+use Rattle.js_print.specs.Layout.{pieces, all_pieces, printed, separated, braces, is_looser, needs, no_need, in_parentheses, held, held_kids, wrapped}
+use Rattle.js_print.proofs.Lexemes.{word_token, sign_token, behind_gap}
+use Rattle.js_print.proofs.Blanks.{gap_stands, gap_statement}
+use Rattle.js_print.proofs.Fit.{differ, and_left, and_right, fit, fit_each, fit_places, two_parts, three_parts, absent_part, empty_part, many_part, text_none}
 use Rattle.js_print.proofs.Standing.{text_same, Lists, Claim, Claims, AllClaims, moved, held_level, held_stands, listing, all_listing, ends, ends_by, fresh_append, fresh_line, is_fresh}
 use Rattle.js_print.proofs.Standing as standing
-use Rattle.js_print.proofs.Expressions.{name_alone, binding_alone, source_alone, tight}
+use Rattle.js_print.proofs.Expressions.{name_alone, tight}
 use Rattle.js_print.proofs.Statements.{plainly, first_of_one, first_of_more, InParentheses, parameters_stand}
 
 pub flags_off : (C : List Text → Type 0) → C ([] ∷ [] ∷ []) → (texts : List Text) → two_flags texts ≡ true → C texts

@@ -1,23 +1,18 @@
 -- The text of each variant, by the texts of its parts.
-use Rattle.std.proofs.Common.{◌≡◌, refl, sym, subst, ◌∙◌, ap, ℕ, suc, zero, ◌+◌, ◌<◌, arith, List, [], ◌∷◌, ◌++◌, length, take, get_or, map, Option, None, Some, Bool, true, false, ◌||◌, append_assoc, add-one, take-suc, ◌≤◌}
+use Rattle.std.proofs.Common.{◌≡◌, refl, sym, ◌∙◌, ap, ℕ, ◌+◌, ◌<◌, arith, List, [], ◌∷◌, ◌++◌, length, take, get_or, map, Bool, true, false, ◌||◌, append_assoc, add-one, take-suc, ◌≤◌}
 use Rattle.std.proofs.lemmas.List.{append-nil, map-append, length-take-le, length-map}
-use Rattle.std.specs.Prelude.{codes, option_map}
-use Rattle.js_term.specs.Term.{Text, Kind, Term, absent, list, node, Terms, none, more, one, two, all, maybe, flag, first}
+use Rattle.std.specs.Prelude.{codes}
+use Rattle.js_term.specs.Term.{Text, Kind, Term, node, Terms, all}
 use Rattle.js_term.specs.Node.{truth}
-use Rattle.js_term.specs.Spells.{is_string_literal}
-use Rattle.js_tree.specs.TermOf.{expression_term, declaration_term, statement_term, function_term, declarator_term, parameter_term, parameters_term, binding_term, pattern_term, body_term, directive_term, function_word, variable_word, property_term, property_word, property_texts, specifier_term, specifiers_term, export_name_term, program_term, hashbang_texts}
-use Rattle.js_tree.proofs.Levels.{expression_node, statement_node, declaration_node, e_BooleanLiteral, e_NumericLiteral, e_StringLiteral, e_Identifier, e_ArrayExpression, e_AwaitExpression, e_CallExpression, e_FunctionExpression, e_ObjectExpression, e_ParenthesizedExpression, e_SequenceExpression, e_StaticMemberExpression, d_VariableDeclaration, d_FunctionDeclaration, s_ExpressionStatement, s_ReturnStatement, s_VariableDeclaration, s_FunctionDeclaration, s_ImportDeclaration, s_ExportDeclaration, function_parts, declarator_parts}
+use Rattle.js_tree.specs.TermOf.{expression_term, statement_term, function_term, property_term}
+use Rattle.js_tree.proofs.Levels.{expression_node, statement_node, e_BooleanLiteral, e_NumericLiteral, e_StringLiteral, e_Identifier, e_ArrayExpression, e_AwaitExpression, e_CallExpression, e_FunctionExpression, e_ObjectExpression, e_ParenthesizedExpression, e_SequenceExpression, e_StaticMemberExpression}
 use Rattle.js_tree.specs.declared.expression.Expression.{Expression}
 use Rattle.js_tree.specs.declared.expression.Expression.TheVariants as expression
-use Rattle.js_tree.specs.declared.module.Declaration.{Declaration}
-use Rattle.js_tree.specs.declared.module.Declaration.TheVariants as declaration
 use Rattle.js_tree.specs.declared.statement.Statement.{Statement}
-use Rattle.js_tree.specs.declared.statement.Statement.TheVariants as statement
 use Rattle.js_tree.specs.declared.expression.BooleanLiteral.{BooleanLiteral}
 use Rattle.js_tree.specs.declared.expression.NumericLiteral.{NumericLiteral}
 use Rattle.js_tree.specs.declared.expression.StringLiteral.{StringLiteral}
 use Rattle.js_tree.specs.declared.id.IdentifierReference.{IdentifierReference}
-use Rattle.js_tree.specs.declared.id.BindingIdentifier.{BindingIdentifier}
 use Rattle.js_tree.specs.declared.expression.ArrayExpression.{ArrayExpression}
 use Rattle.js_tree.specs.declared.expression.AwaitExpression.{AwaitExpression}
 use Rattle.js_tree.specs.declared.expression.CallExpression.{CallExpression}
@@ -28,7 +23,7 @@ use Rattle.js_tree.specs.declared.expression.SequenceExpression.{SequenceExpress
 use Rattle.js_tree.specs.declared.expression.StaticMemberExpression.{StaticMemberExpression}
 use Rattle.js_tree.specs.declared.function.Function.{Function}
 use Rattle.js_print.specs.Parts.{key_start}
-use Rattle.js_print.specs.Layout.{laid, row, cell, pieces, all_pieces, rows, printed, commas, behind, separated, braces, lines, lead, quoted, property_laid, is_looser, is_number, leads, needs, no_need, in_parentheses, held, held_kids, wrapped, at_level}
+use Rattle.js_print.specs.Layout.{pieces, all_pieces, printed, commas, behind, separated, braces, lines, lead, quoted, is_looser, is_number, needs, no_need, in_parentheses, held, held_kids, wrapped, at_level}
 
 -- a part in its place
 abbrev pub needs_parentheses : (Term → Bool) → Expression → Text

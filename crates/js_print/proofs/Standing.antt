@@ -1,19 +1,16 @@
 -- A printed tree stands at the front of a text: its layout spells it, with the parentheses that were put.
-use Rattle.std.proofs.Common.{◌≡◌, refl, sym, ◌∙◌, ap, subst, ℕ, suc, ◌≤◌, List, [], ◌∷◌, ◌++◌, Bool, true, false, ◌&&◌, ◌||◌, not, cond, nat_eq, nat_lt, lit≤, append_assoc}
-use Rattle.std.proofs.lemmas.List.{append-nil}
+use Rattle.std.proofs.Common.{◌≡◌, refl, sym, ap, subst, ℕ, ◌≤◌, List, [], ◌∷◌, ◌++◌, Bool, true, false, ◌&&◌, ◌||◌, not, cond, nat_eq, append_assoc}
 use Rattle.std.proofs.lemmas.Bool.{ltb-false}
-use Rattle.std.specs.Prelude.{codes}
 use Rattle.std.specs.Cmp.Lexicographic.{bytes_decides}
-use Rattle.js_term.specs.Term.{Text, is_text, Kind, Term, absent, list, node, Terms, none, more, one, two, all}
-use Rattle.js_term.specs.Lexeme.{whole, Token, Lexeme, word, number, string, sign, is_word, is_decimal, is_reserved, is_one_of, not_next, goes_on, goes_on_number, opens_otherwise, is_blank, is_line_end, same_line}
-use Rattle.js_term.specs.Node.{identifier_of, binding_of, name_of, string_of, number_of, truth, boolean_of, call_of, member_of, sequence_of, await_of, array_of, object_of, property_of, method_property_of, named, parameters_of, body_of, function_of, const_of, return_of, statement_of, specifier_of, import_declaration_of, export_declaration_of, program_of, parenthesized_of}
-use Rattle.js_term.specs.Spells.{level, is_string_literal, joined, Stands, identifier, boolean, numeric, string_literal, parenthesized, call, member, await_expression, array, object, Listed, last, and, Group, no_items, some_items, Statement, Declaration}
+use Rattle.js_term.specs.Term.{Text, is_text, Kind, Term, absent, list, node, Terms, none, more, all}
+use Rattle.js_term.specs.Lexeme.{whole, not_next, goes_on, goes_on_number, is_blank, is_line_end, same_line}
+use Rattle.js_term.specs.Node.{parenthesized_of}
+use Rattle.js_term.specs.Spells.{level, joined, Stands, parenthesized, Listed, Statement, Declaration}
 use Rattle.js_term.specs.Form.{Sort, Place, fits, is_binding_name, one_text, is_off, is_truth, no_texts, many, several}
 use Rattle.js_term.specs.Form as form
-use Rattle.js_print.specs.Layout.{laid, pieces, all_pieces, rows, printed, commas, behind, separated, quoted, is_looser, is_number, leads, needs, in_parentheses, held, held_kids, no_need, wrapped}
-use Rattle.js_print.proofs.Lexemes.{word_token, number_token, string_token, sign_token, behind_gap}
-use Rattle.js_print.proofs.Blanks.{gap_stands, gap_listed}
-use Rattle.js_print.proofs.Fit.{differ, and_left, and_right, fit, fit_each, fit_places, no_parts, one_part, two_parts, three_parts, many_part, several_part, text_alone, text_none}
+use Rattle.js_print.specs.Layout.{pieces, printed, is_looser, needs, in_parentheses, held, held_kids, wrapped}
+use Rattle.js_print.proofs.Lexemes.{sign_token}
+use Rattle.js_print.proofs.Fit.{differ, fit}
 
 pub true_not : (b : Bool) → not b ≡ true → b ≡ false
 true_not true h = sym h

@@ -1,9 +1,9 @@
 -- The text of each statement, by the texts of its parts.
-use Rattle.std.proofs.Common.{◌≡◌, refl, sym, ◌∙◌, ap, ℕ, List, [], ◌∷◌, ◌++◌, map, Option, None, Some, Bool, true, false, ◌||◌, append_assoc}
+use Rattle.std.proofs.Common.{◌≡◌, refl, sym, ◌∙◌, ap, List, [], ◌∷◌, ◌++◌, map, Option, None, Some, Bool, false, ◌||◌, append_assoc}
 use Rattle.std.specs.Prelude.{codes, option_map}
-use Rattle.js_term.specs.Term.{Text, Kind, Term, absent, list, node, Terms, none, more, one, two, all, maybe, flag}
+use Rattle.js_term.specs.Term.{Text, Kind, Term, absent, list, node, more, one, two, all, maybe, flag}
 use Rattle.js_term.specs.Spells.{is_string_literal}
-use Rattle.js_tree.specs.TermOf.{expression_term, declaration_term, statement_term, function_term, declarator_term, parameter_term, parameters_term, binding_term, pattern_term, body_term, directive_term, function_word, variable_word, specifier_term, export_name_term, import_term, program_term, hashbang_texts}
+use Rattle.js_tree.specs.TermOf.{expression_term, declaration_term, statement_term, function_term, declarator_term, parameter_term, parameters_term, binding_term, pattern_term, body_term, function_word, variable_word, specifier_term, program_term}
 use Rattle.js_tree.proofs.Levels.{d_VariableDeclaration, d_FunctionDeclaration, s_ExpressionStatement, s_ReturnStatement, s_VariableDeclaration, s_FunctionDeclaration, s_ImportDeclaration, s_ExportDeclaration, function_parts, declarator_parts}
 use Rattle.js_tree.specs.declared.expression.Expression.{Expression}
 use Rattle.js_tree.specs.declared.module.Declaration.{Declaration}
@@ -31,7 +31,7 @@ use Rattle.js_tree.specs.declared.function.FormalParameter.{FormalParameter}
 use Rattle.js_tree.specs.declared.function.FormalParameters.{FormalParameters}
 use Rattle.js_tree.specs.declared.id.BindingIdentifier.{BindingIdentifier}
 use Rattle.js_tree.specs.declared.expression.StringLiteral.{StringLiteral}
-use Rattle.js_print.specs.Layout.{laid, pieces, all_pieces, rows, printed, commas, separated, braces, lines, quoted, renamed_text, is_looser, leads, no_need, held, held_kids, wrapped, layout}
+use Rattle.js_print.specs.Layout.{pieces, printed, commas, braces, lines, quoted, renamed_text, is_looser, leads, no_need, held, layout}
 use Rattle.js_print.specs.Parts.{id_text, function_start, imported_text}
 use Rattle.js_print.proofs.Rows.{one_text, needs_parentheses, held_expression, pieces_each, statements_pieces}
 

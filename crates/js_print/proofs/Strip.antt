@@ -1,6 +1,6 @@
 -- Parentheses that are put are taken away by strip.
 use Rattle.std.proofs.Common.{◌≡◌, refl, ap, ◌∙◌, ℕ, suc, Bool, true, false}
-use Rattle.js_term.specs.Term.{Kind, Term, absent, list, node, Terms, none, more, strip, strip_all, unwrapped}
+use Rattle.js_term.specs.Term.{Term, absent, list, node, Terms, none, more, strip, strip_all, unwrapped}
 use Rattle.js_print.specs.Layout.{needs, in_parentheses, held, held_kids}
 
 strip_in_parentheses : (b : Bool) (t : Term) → strip (in_parentheses b t) ≡ strip t

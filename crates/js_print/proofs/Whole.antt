@@ -1,15 +1,15 @@
 -- Each printable module is spelled by its layout.
-use Rattle.std.proofs.Common.{◌≡◌, refl, sym, ◌∙◌, ap, subst, ℕ, suc, ◌≤◌, List, [], ◌∷◌, ◌++◌, Bool, true, false, ◌&&◌, ◌||◌, not, cond, nat_eq, nat_lt, lit≤, append_assoc}
+use Rattle.std.proofs.Common.{◌≡◌, refl, sym, ◌∙◌, ap, subst, List, [], ◌∷◌, ◌++◌, Bool, true, false, ◌||◌, cond, nat_eq, nat_lt, lit≤, append_assoc}
 use Rattle.std.proofs.lemmas.List.{append-nil}
 use Rattle.std.proofs.lemmas.Bool.{ltb-false}
 use Rattle.std.specs.Prelude.{codes}
 use Rattle.js_term.specs.Term.{Text, is_text, Kind, Term, absent, list, node, Terms, none, more, one, two, all, strip}
-use Rattle.js_term.specs.Lexeme.{whole, is_word, is_decimal, is_reserved, not_next, goes_on, goes_on_number, opens_otherwise}
-use Rattle.js_term.specs.Node.{name_of, binding_of, string_of, object_of, parameters_of, body_of, function_of, const_of, return_of, statement_of, specifier_of, import_declaration_of, export_declaration_of, program_of, parenthesized_of}
-use Rattle.js_term.specs.Spells.{level, level_first, joined, is_string_literal, Stands, parenthesized, object, Listed, last, Properties, no_properties, last_property, and_property, Property, Statement, declaration, returns, expression, Declaration, constant, function, Specifier, renamed, unrenamed, Specifiers, last_specifier, and_specifier, Item, statement, imports, exports, Items, no_more_items, next_item, Spells, spells}
+use Rattle.js_term.specs.Lexeme.{whole, is_word, is_decimal, is_reserved, not_next, goes_on}
+use Rattle.js_term.specs.Node.{name_of, binding_of, string_of, object_of, function_of, const_of, return_of, statement_of, specifier_of, import_declaration_of, program_of, parenthesized_of}
+use Rattle.js_term.specs.Spells.{level, level_first, joined, is_string_literal, Stands, parenthesized, object, last, Properties, no_properties, last_property, and_property, Statement, declaration, returns, expression, Declaration, constant, function, Specifier, renamed, unrenamed, Specifiers, last_specifier, and_specifier, Item, statement, imports, exports, Items, no_more_items, next_item, Spells, spells}
 use Rattle.js_term.specs.Form.{Sort, Place, one_text, no_texts, two_flags, is_off, is_truth, is_binding_name, is_property, many, some, single, several, empty, is_printable}
 use Rattle.js_term.specs.Form as form
-use Rattle.js_print.specs.Layout.{laid, pieces, all_pieces, printed, commas, separated, all_escaped, braces, lines, renamed_text, is_looser, leads, needs, no_need, in_parentheses, held, held_kids, wrapped, layout, IsPrinted}
+use Rattle.js_print.specs.Layout.{pieces, all_pieces, printed, commas, all_escaped, braces, lines, renamed_text, is_looser, leads, needs, no_need, in_parentheses, held, held_kids, wrapped, layout, IsPrinted}
 use Rattle.js_print.proofs.Lexemes.{word_token, string_token, sign_token, behind_gap}
 use Rattle.js_print.proofs.Blanks.{gap_listed, gap_property, gap_declaration, gap_specifier, gap_item, gap_stands}
 use Rattle.js_print.proofs.Fit.{differ, and_left, and_right, fit, fit_each, fit_places, one_part, two_parts, three_parts, empty_part, many_part, some_part, single_part, text_alone, text_none}
@@ -19,7 +19,7 @@ use Rattle.js_print.proofs.Standing.{text_same, Standing, Lists, Claim, Claims, 
 use Rattle.js_print.proofs.Standing as standing
 use Rattle.js_print.proofs.Expressions.{or_left, or_right, binding_alone, name_alone, source_alone, tight, Freshly, identifier_step, string_step, number_step, boolean_step, call_step, member_step, await_step, array_step, sequence_step, identifier_fresh, numeric_fresh, boolean_fresh, call_fresh, member_fresh, sequence_fresh}
 use Rattle.js_print.proofs.Statements.{plainly, first_of_one, first_of_more, InParentheses, parameters_stand}
-use Rattle.js_print.proofs.Modules.{flags_off, statement_place, item_place, node_piece, claim_of, braces_some, InBraces, body_stands, gap_body, PropertyStands, property_stands}
+use Rattle.js_print.proofs.Modules.{flags_off, statement_place, item_place, node_piece, claim_of, braces_some, InBraces, body_stands, gap_body, property_stands}
 
 abbrev expression_place : Place
 expression_place = standing.expression

@@ -2,12 +2,10 @@
 -- generated fold.
 use Rattle.std.proofs.Common.{◌≡◌, refl, sym, subst, ap, ◌∙◌, List, [], ◌∷◌, Option, None, Some, map, codes}
 use Rattle.std.specs.Prelude.{option_map}
-use Rattle.js_term.specs.Term.{Text, Term, Kind, absent, list, node, Terms, none, more, one, two, all, maybe, flag}
-use Rattle.js_tree.specs.TermOf.{itself, name_term, reference_term, binding_term, string_term, number_term, boolean_term, pattern_term, parameters_term, import_term, variable_word, property_texts, call_term, member_term, sequence_term, await_term, array_term, property_term, object_term, parenthesized_term, body_term, variables_term, return_term, effect_term, export_term, function_word, expression_level, declaration_level, statement_level, function_level, declarator_level, expression_step, declaration_step, statement_step, function_step, declarator_step, expression_term, declaration_term, statement_term, function_term, declarator_term}
+use Rattle.js_term.specs.Term.{Text, Term, Kind, list, node, Terms, more, one, two, all, maybe, flag}
+use Rattle.js_tree.specs.TermOf.{itself, reference_term, binding_term, string_term, number_term, boolean_term, pattern_term, parameters_term, import_term, variable_word, call_term, member_term, sequence_term, await_term, array_term, property_term, object_term, parenthesized_term, body_term, variables_term, return_term, effect_term, export_term, function_word, expression_level, declaration_level, statement_level, function_level, declarator_level, expression_step, declaration_step, statement_step, function_step, declarator_step, expression_term, declaration_term, statement_term, function_term, declarator_term}
 use Rattle.js_tree.specs.declared.id.Span.{Span}
-use Rattle.js_tree.specs.declared.id.IdentifierName.{IdentifierName}
 use Rattle.js_tree.specs.declared.id.IdentifierReference.{IdentifierReference}
-use Rattle.js_tree.specs.declared.id.BindingIdentifier.{BindingIdentifier}
 use Rattle.js_tree.specs.declared.expression.BooleanLiteral.{BooleanLiteral}
 use Rattle.js_tree.specs.declared.expression.NumericLiteral.{NumericLiteral}
 use Rattle.js_tree.specs.declared.expression.StringLiteral.{StringLiteral}
@@ -19,22 +17,11 @@ use Rattle.js_tree.specs.declared.expression.ArrayExpression.{ArrayExpression}
 use Rattle.js_tree.specs.declared.expression.ObjectProperty.{ObjectProperty}
 use Rattle.js_tree.specs.declared.expression.ObjectExpression.{ObjectExpression}
 use Rattle.js_tree.specs.declared.expression.ParenthesizedExpression.{ParenthesizedExpression}
-use Rattle.js_tree.specs.declared.expression.PropertyKind.{PropertyKind}
-use Rattle.js_tree.specs.declared.function.Directive.{Directive}
-use Rattle.js_tree.specs.declared.function.FunctionBody.{FunctionBody}
-use Rattle.js_tree.specs.declared.function.BindingPattern.{BindingPattern}
-use Rattle.js_tree.specs.declared.function.FormalParameter.{FormalParameter}
-use Rattle.js_tree.specs.declared.function.FormalParameters.{FormalParameters}
-use Rattle.js_tree.specs.declared.function.FunctionKind.{FunctionKind}
 use Rattle.js_tree.specs.declared.statement.ExpressionStatement.{ExpressionStatement}
 use Rattle.js_tree.specs.declared.statement.ReturnStatement.{ReturnStatement}
-use Rattle.js_tree.specs.declared.statement.VariableDeclarationKind.{VariableDeclarationKind}
 use Rattle.js_tree.specs.declared.statement.VariableDeclaration.{VariableDeclaration}
-use Rattle.js_tree.specs.declared.module.ModuleExportName.{ModuleExportName}
-use Rattle.js_tree.specs.declared.module.ImportSpecifier.{ImportSpecifier}
 use Rattle.js_tree.specs.declared.module.ImportDeclaration.{ImportDeclaration}
 use Rattle.js_tree.specs.declared.module.ExportDeclaration.{ExportDeclaration}
-use Rattle.js_tree.specs.declared.module.Program.{Program}
 use Rattle.js_tree.specs.declared.expression.Expression.{Expression, Expression-F, out-Expression, map-Expression, fold_out-Expression}
 use Rattle.js_tree.specs.declared.module.Declaration.{Declaration, Declaration-F, out-Declaration, map-Declaration, fold_out-Declaration}
 use Rattle.js_tree.specs.declared.statement.Statement.{Statement, Statement-F, out-Statement, map-Statement, fold_out-Statement}

@@ -26,6 +26,8 @@ pub use function::{
 pub use id::{
     BindingIdentifier, IdentifierName, IdentifierReference, ReferenceId, ScopeId, Span, SymbolId,
 };
+pub use js_ident::Ident;
+pub use js_items::{Boxed, Items};
 pub use module::{
     Declaration, ExportDeclaration, ImportDeclaration, ImportSpecifier, ModuleExportName, Program,
 };
@@ -33,6 +35,3 @@ pub use statement::{
     ExpressionStatement, ReturnStatement, Statement, VariableDeclaration, VariableDeclarationKind,
     VariableDeclarator,
 };
-
-pub use js_ident::Ident;
-pub use js_items::{Boxed, Items};

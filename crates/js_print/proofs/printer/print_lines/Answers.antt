@@ -1,4 +1,4 @@
-use Rattle.std.proofs.Common.{◌≡◌, ap, ◌∙◌, ◌++◌, string_bytes, arith}
+use Rattle.std.proofs.Common.{string_bytes, arith}
 use Rattle.js_tree.specs.TermOf.{statement_term}
 use Rattle.js_print.specs.Layout.{printed, wrapped}
 use Rattle.js_print.proofs.Rows.{line_printed}

@@ -1,7 +1,6 @@
 use Rattle.std.proofs.Common.{◌≡◌, ◌++◌, take, map, string_bytes}
-use Rattle.std.specs.Prelude.{codes}
 use Rattle.js_tree.specs.TermOf.{statement_term}
-use Rattle.js_print.specs.Layout.{printed, wrapped, commas, separated, lines, at_level}
+use Rattle.js_print.specs.Layout.{printed, wrapped, lines}
 use Rattle.js_print.proofs.printer.print_lines.Given as goal
 
 abbrev pub invariant-loop-one : goal.invariant-loop-one

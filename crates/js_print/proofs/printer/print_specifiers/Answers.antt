@@ -1,4 +1,4 @@
-use Rattle.std.proofs.Common.{◌≡◌, ap, ◌∙◌, ◌++◌, sym, string_bytes, arith}
+use Rattle.std.proofs.Common.{string_bytes, arith}
 use Rattle.std.specs.Prelude.{codes}
 use Rattle.js_tree.specs.TermOf.{specifier_term}
 use Rattle.js_print.specs.Layout.{printed, wrapped}

@@ -1,7 +1,6 @@
 use Rattle.std.proofs.Common.{◌≡◌, ◌++◌, take, map, string_bytes}
-use Rattle.std.specs.Prelude.{codes}
 use Rattle.js_tree.specs.TermOf.{specifier_term}
-use Rattle.js_print.specs.Layout.{printed, wrapped, commas, separated, lines, at_level}
+use Rattle.js_print.specs.Layout.{printed, wrapped, commas}
 use Rattle.js_print.proofs.printer.print_specifiers.Given as goal
 
 abbrev pub invariant-loop-i : goal.invariant-loop-i
