@@ -2,9 +2,9 @@
 use Rattle.std.proofs.Common.{◌≡◌, refl, sym, ap, ◌∙◌, List, [], ◌∷◌, ◌++◌, Bool, true, false, ◌&&◌, map, codes}
 use Rattle.std.specs.Prelude.{option_map}
 use mathlib.Core.Bool.{true≢false}
-use Rattle.js_term.specs.Term.{Text, Kind, Term, absent, list, node, Terms, none, more, two, all, maybe, flag}
+use Rattle.js_term.specs.Term.{Kind, Term, absent, list, node, Terms, none, more, two, all, maybe, flag}
 use Rattle.js_term.specs.Scope.{role, body_names, module_scope, names_in}
-use Rattle.js_term.specs.Form.{Sort, Place, one, nowhere, empty, many, stands_small, places, fits, fits_each, fits_places, takes_kind, takes_list, takes_absent, item_place, first_place, later_places, no_places, no_texts, is_distinct, is_distinct_inside, has_distinct_scopes, have_distinct_scopes, is_small}
+use Rattle.js_term.specs.Form.{Sort, Place, one, nowhere, empty, stands_small, places, fits, fits_each, fits_places, takes_kind, takes_list, takes_absent, item_place, first_place, later_places, no_places, no_texts, is_distinct, is_distinct_inside, has_distinct_scopes, have_distinct_scopes, is_small}
 use Rattle.js_tree.specs.TermOf.{function_word, function_term, binding_term, parameters_term, parameter_term, body_term, directive_term, statement_term, program_term, hashbang_texts}
 use Rattle.js_tree.specs.declared.function.Directive.{Directive}
 use Rattle.js_tree.specs.declared.function.Function.{Function}
@@ -13,7 +13,7 @@ use Rattle.js_tree.specs.declared.function.FunctionKind.TheVariants as function_
 use Rattle.js_tree.specs.declared.module.Program.{Program}
 use Rattle.js_tree.specs.declared.statement.Statement.{Statement}
 use Rattle.js_tree.specs.declared.statement.Statement.TheVariants as statement
-use Rattle.js_tree.proofs.Levels.{function_parts, s_FunctionDeclaration}
+use Rattle.js_tree.proofs.Levels.{function_parts, s_ExpressionStatement, s_ReturnStatement, s_VariableDeclaration, s_FunctionDeclaration, s_ImportDeclaration, s_ExportDeclaration}
 use Rattle.js_small.specs.Small.{allowed, small_at, small_each, small_places, small_head, small_front}
 use Rattle.js_small.specs.Names.{parameter_names, declared_names, imported_names}
 use Rattle.js_small.proofs.Declares.{function_declares, module_names}
@@ -58,7 +58,7 @@ mutual
   small_places_is ps none = and_true (no_places ps)
   small_places_is ps (more t ts) =
       rw (small_is (first_place ps) t, small_places_is (later_places ps) ts)
-          (and_swap (fits stands_small allowed places (first_place ps) t) (has_distinct_scopes t) (fits_places stands_small allowed places (later_places ps) ts) (have_distinct_scopes ts))
+      (and_swap (fits stands_small allowed places (first_place ps) t) (has_distinct_scopes t) (fits_places stands_small allowed places (later_places ps) ts) (have_distinct_scopes ts))
 
 none_stand : (ds : List Directive) → takes_list empty (all (map directive_term ds)) ≡ true → small_each nowhere (all (map directive_term ds)) ≡ true
 none_stand [] h = refl
@@ -106,6 +106,8 @@ statement_function n = rw (s_FunctionDeclaration n, function_parts n, statement_
 
 pub item_function : (n : Function) → small_at (one Sort.item) (statement_term (statement.FunctionDeclaration n)) ≡ small_at (one Sort.declaration) (function_term n)
 item_function n = rw (s_FunctionDeclaration n, function_parts n, item_word n.kind) refl
+
+pub ruleset statements = (statement_function, item_function, s_ExpressionStatement, s_ReturnStatement, s_VariableDeclaration, s_ImportDeclaration, s_ExportDeclaration)
 
 -- modules
 

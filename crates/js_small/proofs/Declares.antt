@@ -1,8 +1,8 @@
 -- What nodes declare, and what imports bind.
-use Rattle.std.proofs.Common.{◌≡◌, ℕ, true, false, refl, ◌∙◌, ap, List, [], ◌∷◌, ◌++◌, Option, None, Some, map, codes}
+use Rattle.std.proofs.Common.{◌≡◌, ℕ, false, refl, ap, List, [], ◌∷◌, ◌++◌, Option, None, Some, map}
 use Rattle.std.proofs.lemmas.List.{append-nil}
 use Rattle.std.specs.Prelude.{option_map}
-use Rattle.js_term.specs.Term.{Text, Term, Kind, absent, list, node, Terms, none, more, two, all, maybe, kids_of, text_of, items}
+use Rattle.js_term.specs.Term.{Text, Term, absent, list, node, Terms, none, more, two, all, maybe, kids_of, text_of, items}
 use Rattle.js_term.specs.Scope.{Role, role, kid, declared, declared_all, body_names, Scope, names_in, bound_by, brings, brought, past, plainly, all_brought, module_scope}
 use Rattle.js_tree.specs.TermOf.{function_word, pattern_term, binding_term, parameter_term, parameters_term, directive_term, body_term, specifier_term, statement_term, declaration_term, declarator_term, function_term, variables_term, specifiers_term, string_term}
 use Rattle.js_tree.specs.declared.function.BindingPattern.{BindingPattern}
@@ -20,7 +20,7 @@ use Rattle.js_tree.specs.declared.statement.Statement.{Statement}
 use Rattle.js_tree.specs.declared.statement.Statement.TheVariants as statement
 use Rattle.js_tree.specs.declared.statement.VariableDeclaration.{VariableDeclaration}
 use Rattle.js_tree.specs.declared.statement.VariableDeclarator.{VariableDeclarator}
-use Rattle.js_tree.proofs.Levels.{s_ExportDeclaration, s_ImportDeclaration, s_FunctionDeclaration, function_parts, declarator_parts}
+use Rattle.js_tree.proofs.Levels.{d_VariableDeclaration, d_FunctionDeclaration, s_ExpressionStatement, s_ReturnStatement, s_VariableDeclaration, s_ExportDeclaration, s_ImportDeclaration, s_FunctionDeclaration, function_parts, declarator_parts}
 use Rattle.js_small.specs.Names.{pattern_name, parameter_names, local_names, imported_names, locals, items_of, imported, locals_by}
 
 pub pattern_declares : (p : BindingPattern) → declared (pattern_term p) ≡ pattern_name p ∷ []
@@ -58,6 +58,10 @@ items_bind (Some ns) t = locals_of ns
 
 pub import_imports : (n : ImportDeclaration) → imported (statement_term (statement.ImportDeclaration n)) ≡ local_names (items_of n.specifiers)
 import_imports n = rw (s_ImportDeclaration n) (items_bind n.specifiers (string_term n.source))
+
+pub ruleset declarations = (s_ExpressionStatement, s_ReturnStatement, s_VariableDeclaration, s_FunctionDeclaration, s_ImportDeclaration, d_VariableDeclaration, d_FunctionDeclaration, export_declares, variables_declare)
+
+pub ruleset imports = (s_ExpressionStatement, s_ReturnStatement, s_VariableDeclaration, s_ExportDeclaration, function_imports, import_imports)
 
 parameters_declare : (ns : List (FormalParameter BindingPattern)) → declared_all (all (map parameter_term ns)) ≡ parameter_names ns
 parameters_declare [] = refl

@@ -21,13 +21,13 @@ pub apart_append : (xs ys zs : List Text) → apart (xs ++ ys) zs ≡ (apart xs 
 apart_append [] ys zs = refl
 apart_append (x ∷ xs) ys zs =
     rw (one_of_append x xs ys, one_of_append x ys zs, apart_append xs ys zs, or_assoc (is_one_of x xs) (is_one_of x ys) (is_one_of x zs))
-        (sym (and_assoc (not (is_one_of x xs || (is_one_of x ys || is_one_of x zs))) (apart xs (ys ++ zs)) (apart ys zs)))
+    (sym (and_assoc (not (is_one_of x xs || (is_one_of x ys || is_one_of x zs))) (apart xs (ys ++ zs)) (apart ys zs)))
 
 pub distinct_append : (xs ys : List Text) → is_distinct (xs ++ ys) ≡ (apart xs ys && is_distinct ys)
 distinct_append [] ys = refl
 distinct_append (x ∷ xs) ys =
     rw (one_of_append x xs ys, distinct_append xs ys)
-        (sym (and_assoc (not (is_one_of x xs || is_one_of x ys)) (apart xs ys) (is_distinct ys)))
+    (sym (and_assoc (not (is_one_of x xs || is_one_of x ys)) (apart xs ys) (is_distinct ys)))
 
 pub one_of_named : (x : Text) (n : Option Text) (ys : List Text) → is_one_of x (with_name n ys) ≡ (is_one_of x (with_name n []) || is_one_of x ys)
 one_of_named x None ys = refl

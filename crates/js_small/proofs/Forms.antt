@@ -1,10 +1,9 @@
 -- The form of each node, by the forms of its parts.
-use Rattle.std.proofs.Common.{◌≡◌, ◌≤◌, refl, length, arith, List, [], ◌∷◌, Option, None, Some, Bool, true, false, map, codes}
-use Rattle.std.specs.Prelude.{option_map}
-use Rattle.js_term.specs.Term.{Text, Term, Kind, absent, list, node, Terms, none, more, one, two, all, maybe, flag}
+use Rattle.std.proofs.Common.{◌≡◌, ◌≤◌, refl, length, arith, List, [], ◌∷◌, true, false, map}
+use Rattle.js_term.specs.Term.{Term, all}
 use Rattle.js_term.specs.Form.{Sort, some, single, empty, takes_list, is_small_expression}
 use Rattle.js_term.specs.Form as form
-use Rattle.js_tree.specs.TermOf.{expression_term, function_term}
+use Rattle.js_tree.specs.TermOf.{expression_term}
 use Rattle.js_tree.specs.declared.function.Function.{Function}
 use Rattle.js_tree.specs.declared.function.FunctionKind.{FunctionKind}
 use Rattle.js_tree.specs.declared.function.FunctionKind.TheVariants as function_kind
@@ -22,6 +21,8 @@ no_function_expression n = rw (e_FunctionExpression n, function_parts n, no_expr
 
 pub no_function_effect : (n : Function) → small_at (form.one Sort.effect) (expression_term (expression.FunctionExpression n)) ≡ false
 no_function_effect n = rw (e_FunctionExpression n, function_parts n, no_expression_word n.kind) refl
+
+pub ruleset expressions = (e_BooleanLiteral, e_NumericLiteral, e_StringLiteral, e_Identifier, e_ArrayExpression, e_AwaitExpression, e_CallExpression, e_ObjectExpression, e_ParenthesizedExpression, e_SequenceExpression, e_StaticMemberExpression, no_function_expression, no_function_effect)
 
 -- how many items a list takes
 

@@ -1,7 +1,7 @@
 -- The names of a scope, as the walk goes over them: each parameter and each specifier has one, and a statement of a
 -- small module at most one.
-use Rattle.std.specs.Prelude.{List, [], ◌∷◌, ◌++◌, map, Option, None, Some, Bool, true, false, not, ◌&&◌, ◌||◌}
-use Rattle.js_term.specs.Term.{Text, Term, absent, list, node, Terms, none, more, items, kids_of, text_of}
+use Rattle.std.specs.Prelude.{List, [], ◌∷◌, ◌++◌, Option, None, Some, Bool, true, false, not, ◌&&◌, ◌||◌}
+use Rattle.js_term.specs.Term.{Text, Term, node, Terms, none, more, items, kids_of, text_of}
 use Rattle.js_term.specs.Scope.{Role, role, kid, declared}
 use Rattle.js_term.specs.Lexeme.{is_one_of}
 use Rattle.js_tree.specs.TermOf.{statement_term}

@@ -9,8 +9,8 @@ ghost use Rattle.js_small.specs.Small.{small_at, small_each, small_head, small_f
 use crate::words::{is_decimal, is_small_binding, is_small_name, is_word};
 use js_tree::{
     BindingIdentifier, BindingPattern, Boxed, Directive, Expression, FormalParameter, Function,
-    FunctionKind, Ident, ImportDeclaration, ImportSpecifier, Items, ModuleExportName, Program, ReturnStatement,
-    VariableDeclaration, VariableDeclarationKind, VariableDeclarator,
+    FunctionKind, Ident, ImportDeclaration, ImportSpecifier, Items, ModuleExportName, Program,
+    ReturnStatement, VariableDeclaration, VariableDeclarationKind, VariableDeclarator,
 };
 
 fn is_binding(n: &BindingIdentifier) -> bool
@@ -28,7 +28,7 @@ fn is_bound(pattern: &BindingPattern) -> bool
 }
 
 #[cycle(expression)]
-#[tactic(auto, using(js_tree::proofs::Levels::e_BooleanLiteral, js_tree::proofs::Levels::e_NumericLiteral, js_tree::proofs::Levels::e_StringLiteral, js_tree::proofs::Levels::e_Identifier, js_tree::proofs::Levels::e_ArrayExpression, js_tree::proofs::Levels::e_AwaitExpression, js_tree::proofs::Levels::e_CallExpression, js_tree::proofs::Levels::e_ObjectExpression, js_tree::proofs::Levels::e_ParenthesizedExpression, js_tree::proofs::Levels::e_SequenceExpression, js_tree::proofs::Levels::e_StaticMemberExpression, crate::proofs::Forms::no_function_expression))]
+#[tactic(auto, using(crate::proofs::Forms::expressions))]
 pub(crate) fn is_expression(e: &Expression) -> bool
     ensures { result ≡ small_at (one Sort.expression) (tree.expression_term e.now) }
 {
@@ -65,7 +65,7 @@ fn are_expressions(items: &[Expression]) -> bool
 }
 
 /// Whether the expression stands as a statement: a string alone would be a directive.
-#[tactic(auto, using(js_tree::proofs::Levels::e_BooleanLiteral, js_tree::proofs::Levels::e_NumericLiteral, js_tree::proofs::Levels::e_StringLiteral, js_tree::proofs::Levels::e_Identifier, js_tree::proofs::Levels::e_ArrayExpression, js_tree::proofs::Levels::e_AwaitExpression, js_tree::proofs::Levels::e_CallExpression, js_tree::proofs::Levels::e_ObjectExpression, js_tree::proofs::Levels::e_ParenthesizedExpression, js_tree::proofs::Levels::e_SequenceExpression, js_tree::proofs::Levels::e_StaticMemberExpression, crate::proofs::Forms::no_function_expression, crate::proofs::Forms::no_function_effect))]
+#[tactic(auto, using(crate::proofs::Forms::expressions))]
 pub(crate) fn is_effect(e: &Expression) -> bool
     ensures { result ≡ small_at (one Sort.effect) (tree.expression_term e.now) }
 {

@@ -49,7 +49,7 @@ fn function_name(n: &Function) -> Option<&Ident>
     }
 }
 
-#[tactic(auto, using(js_tree::proofs::Levels::d_VariableDeclaration, js_tree::proofs::Levels::d_FunctionDeclaration, crate::proofs::Declares::variables_declare))]
+#[tactic(auto, using(crate::proofs::Declares::declarations))]
 fn declaration_name(d: &Declaration) -> Option<&Ident>
     ensures { option_copied result ≡ names.first_name (declared (tree.declaration_term d.now)) }
 {
@@ -60,7 +60,7 @@ fn declaration_name(d: &Declaration) -> Option<&Ident>
 }
 
 /// The first name that a statement declares; one of a small module declares no second.
-#[tactic(auto, using(js_tree::proofs::Levels::s_ExpressionStatement, js_tree::proofs::Levels::s_ReturnStatement, js_tree::proofs::Levels::s_VariableDeclaration, js_tree::proofs::Levels::s_FunctionDeclaration, js_tree::proofs::Levels::s_ImportDeclaration, crate::proofs::Declares::export_declares, crate::proofs::Declares::variables_declare))]
+#[tactic(auto, using(crate::proofs::Declares::declarations))]
 pub(crate) fn declared_name(s: &Statement) -> Option<&Ident>
     ensures { option_copied result ≡ names.declared_name s.now }
 {
@@ -84,7 +84,7 @@ fn items_of(specifiers: &Option<Items<ImportSpecifier>>) -> &[ImportSpecifier]
 }
 
 /// The specifiers of an import; other statements have none.
-#[tactic(auto, using(js_tree::proofs::Levels::s_ExpressionStatement, js_tree::proofs::Levels::s_ReturnStatement, js_tree::proofs::Levels::s_VariableDeclaration, js_tree::proofs::Levels::s_ExportDeclaration, crate::proofs::Declares::function_imports, crate::proofs::Declares::import_imports))]
+#[tactic(auto, using(crate::proofs::Declares::imports))]
 pub(crate) fn specifiers_of(s: &Statement) -> &[ImportSpecifier]
     ensures { names.imported (tree.statement_term s.now) ≡ names.local_names result.now }
 {

@@ -98,7 +98,10 @@ pub(crate) fn has_distinct_names_by(alloc: Global, n: &Function) -> Result<bool,
     are_distinct(alloc, out.as_slice())
 }
 
-pub(crate) fn are_module_names_distinct_by(alloc: Global, items: &[Statement]) -> Result<bool, AllocError>
+pub(crate) fn are_module_names_distinct_by(
+    alloc: Global,
+    items: &[Statement],
+) -> Result<bool, AllocError>
     ensures { IfOk result (λ b. b ≡ is_distinct (names.imported_names items.now ++ names.declared_names items.now)) }
 {
     let mut out = Items::new(alloc);

@@ -20,7 +20,7 @@ fn is_function(n: &Function) -> bool
 }
 
 #[cycle(statement)]
-#[tactic(auto, using(crate::proofs::Agree::statement_function, js_tree::proofs::Levels::s_ExpressionStatement, js_tree::proofs::Levels::s_ReturnStatement, js_tree::proofs::Levels::s_VariableDeclaration, js_tree::proofs::Levels::s_ImportDeclaration, js_tree::proofs::Levels::s_ExportDeclaration))]
+#[tactic(auto, using(crate::proofs::Agree::statements))]
 fn is_statement(s: &Statement) -> bool
     ensures { result ≡ small_at (one Sort.statement) (tree.statement_term s.now) }
 {
@@ -55,7 +55,7 @@ fn is_declaration(d: &Declaration) -> bool
     }
 }
 
-#[tactic(auto, using(crate::proofs::Agree::item_function, js_tree::proofs::Levels::s_ExpressionStatement, js_tree::proofs::Levels::s_ReturnStatement, js_tree::proofs::Levels::s_VariableDeclaration, js_tree::proofs::Levels::s_ImportDeclaration, js_tree::proofs::Levels::s_ExportDeclaration))]
+#[tactic(auto, using(crate::proofs::Agree::statements))]
 fn is_item(s: &Statement) -> bool
     ensures { result ≡ small_at (one Sort.item) (tree.statement_term s.now) }
 {

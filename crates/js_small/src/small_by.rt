@@ -25,7 +25,7 @@ fn is_function_by(alloc: Global, n: &Function) -> Result<bool, AllocError>
 }
 
 #[cycle(statement_by)]
-#[tactic(auto, using(crate::proofs::Agree::statement_function, js_tree::proofs::Levels::s_ExpressionStatement, js_tree::proofs::Levels::s_ReturnStatement, js_tree::proofs::Levels::s_VariableDeclaration, js_tree::proofs::Levels::s_ImportDeclaration, js_tree::proofs::Levels::s_ExportDeclaration))]
+#[tactic(auto, using(crate::proofs::Agree::statements))]
 fn is_statement_by(alloc: Global, s: &Statement) -> Result<bool, AllocError>
     ensures { IfOk result (λ b. b ≡ small_at (one Sort.statement) (tree.statement_term s.now)) }
 {
@@ -60,7 +60,7 @@ fn is_declaration_by(alloc: Global, d: &Declaration) -> Result<bool, AllocError>
     }
 }
 
-#[tactic(auto, using(crate::proofs::Agree::item_function, js_tree::proofs::Levels::s_ExpressionStatement, js_tree::proofs::Levels::s_ReturnStatement, js_tree::proofs::Levels::s_VariableDeclaration, js_tree::proofs::Levels::s_ImportDeclaration, js_tree::proofs::Levels::s_ExportDeclaration))]
+#[tactic(auto, using(crate::proofs::Agree::statements))]
 fn is_item_by(alloc: Global, s: &Statement) -> Result<bool, AllocError>
     ensures { IfOk result (λ b. b ≡ small_at (one Sort.item) (tree.statement_term s.now)) }
 {

@@ -1,4 +1,4 @@
-use Rattle.std.proofs.Common.{◌≡◌, ◌++◌, length}
+use Rattle.std.proofs.Common.{◌≡◌, length}
 use Rattle.js_small.specs.Names.{declared_names}
 use Rattle.js_small.proofs.repeats.are_declared_once.Given as goal
 use Rattle.js_term.specs.Form.{is_distinct}

@@ -1,4 +1,4 @@
-use Rattle.std.proofs.Common.{◌≡◌, ◌++◌, length}
+use Rattle.std.proofs.Common.{◌≡◌, length}
 use Rattle.js_small.specs.Names.{apart, imported_names, declared_names}
 use Rattle.js_small.proofs.repeats.are_imports_apart.Given as goal
 

@@ -1,4 +1,4 @@
-use Rattle.std.proofs.Common.{◌≡◌, ◌++◌, length}
+use Rattle.std.proofs.Common.{◌≡◌, length}
 use Rattle.js_small.specs.Names.{apart, parameter_names, declared_names}
 use Rattle.js_small.proofs.repeats.are_parameters_apart.Given as goal
 
