@@ -1,0 +1,2 @@
+//! Reads a module.
+#![tactic(auto)]
