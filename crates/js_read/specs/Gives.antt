@@ -1,0 +1,15 @@
+-- What a function that reads ensures.
+use Rattle.std.specs.Prelude.{◌≡◌, ℕ, Result, Ok, Err, Option, None, Some}
+use Rattle.js_term.specs.Term.{Text}
+use Rattle.js_read.specs.declared.fault.Halt.{Halt}
+use Rattle.js_read.specs.declared.fault.Halt.TheVariants as halt
+use Rattle.js_read.specs.Read.{Reading}
+
+abbrev pub Fails : {A : Type 0} → Halt → Reading A → Type 0
+Fails halt.NoMemory outcome = Unit {0}
+Fails halt.Unread outcome = outcome ≡ None
+
+-- the outcome, unless memory runs out
+abbrev pub Reads : {X A : Type 0} → (X → A) → Reading A → Result X Halt → Text → Type 0
+Reads view outcome (Ok x) rest = outcome ≡ Some (view x, rest)
+Reads view outcome (Err e) rest = Fails e outcome
