@@ -18,3 +18,6 @@ depths_snoc (x ∷ ts) u = let h = depths_snoc ts u in omega arith
 pub map_snoc : {A B : Type 0} (f : A → B) (xs : List A) (x : A) → map f (xs ++ x ∷ []) ≡ map f xs ++ f x ∷ []
 map_snoc f [] x = refl
 map_snoc f (y ∷ xs) x = ap (λ ys. f y ∷ ys) (map_snoc f xs x)
+
+pub two_deeper : {X : Type 0} (f : ℕ → X) (n : ℕ) → 2 ≤ n → f n ≡ f (suc (suc (n - 2)))
+two_deeper f n some = let e : n ≡ suc (suc (n - 2)) = omega arith in ap f e

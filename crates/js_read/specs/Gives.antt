@@ -1,8 +1,10 @@
 -- What a function that reads ensures.
-use Rattle.std.specs.Prelude.{◌≡◌, ℕ, Result, Ok, Err, Option, None, Some}
+use Rattle.std.specs.Prelude.{◌≡◌, ◌≤◌, ℕ, Result, Ok, Err, Option, None, Some}
 use Rattle.js_term.specs.Term.{Text}
 use Rattle.js_read.specs.declared.fault.Halt.{Halt}
 use Rattle.js_read.specs.declared.fault.Halt.TheVariants as halt
+use Rattle.js_read.specs.declared.fault.ReadFault.{ReadFault}
+use Rattle.js_read.specs.declared.fault.ReadFault.TheVariants as fault
 use Rattle.js_read.specs.Read.{Reading}
 
 abbrev pub Fails : {A : Type 0} → Halt → Reading A → Type 0
@@ -13,3 +15,17 @@ Fails halt.Unread outcome = outcome ≡ None
 abbrev pub Reads : {X A : Type 0} → (X → A) → Reading A → Result X Halt → Text → Type 0
 Reads view outcome (Ok x) rest = outcome ≡ Some (view x, rest)
 Reads view outcome (Err e) rest = Fails e outcome
+
+-- the same for a whole text
+abbrev pub FailsWhole : {A : Type 0} → ReadFault → Option A → Type 0
+FailsWhole fault.NoMemory outcome = Unit {0}
+FailsWhole (fault.Unread at) outcome = outcome ≡ None
+
+abbrev pub Gives : {X A : Type 0} → (X → A) → Option A → Result X ReadFault → Type 0
+Gives view outcome (Ok x) = outcome ≡ Some (view x)
+Gives view outcome (Err e) = FailsWhole e outcome
+
+-- where an error says that reading stopped
+abbrev pub StopsBy : ℕ → ReadFault → Type 0
+StopsBy n fault.NoMemory = Unit {0}
+StopsBy n (fault.Unread at) = at ≤ n

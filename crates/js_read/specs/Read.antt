@@ -1,6 +1,6 @@
 -- Reading as a function: what a text has at its front, and the rest. A number that is given to it is the depth that
 -- is still allowed, so that it finds exactly the trees that are no deeper.
-use Rattle.std.specs.Prelude.{ℕ, zero, suc, List, [], ◌∷◌, ◌++◌, length, Option, None, Some, Bool, true, false, ◌||◌, if◌then◌else◌, nat_le, codes}
+use Rattle.std.specs.Prelude.{ℕ, zero, suc, ◌+◌, List, [], ◌∷◌, ◌++◌, length, Option, None, Some, Bool, true, false, ◌||◌, if◌then◌else◌, nat_le, codes}
 use Rattle.std.specs.List.{list_all}
 use Rattle.js_term.specs.Term.{Text, Term, all, depth}
 use Rattle.js_term.specs.Lexeme.{Lexeme, word, number, string, left_brace, right_brace, left_paren, right_paren, comma, semicolon, dot, equals, is_blank, is_reserved, same_line}
@@ -99,8 +99,9 @@ read (suc limit) a = whole limit (read limit) a
 
 -- ---- statements
 
+-- with their parentheses
 unfoldable pub parameters : Text → Reading (List Text)
-parameters a = separated_until binding right_paren a
+parameters a = expect left_paren a >>= λ _ b. separated_until binding right_paren b >>= λ xs c. expect right_paren c >>= λ _ d. Some (xs, d)
 
 -- whether a function with these parameters is no deeper than `limit` and two more, as far as they go
 abbrev pub fits : ℕ → List Text → Bool
@@ -123,8 +124,8 @@ module _ (limit : ℕ) (part : Text → Reading Term) where
   -- behind `function`
   unfoldable pub function : Text → Reading Term
   function a =
-      binding a >>= λ x b. expect left_paren b >>= λ _ c. parameters c >>= λ xs d. expect right_paren d >>= λ _ e.
-      body e >>= λ ss f. if fits limit xs then Some (function_of x xs (all ss), f) else None
+      binding a >>= λ x b. parameters b >>= λ xs c. body c >>= λ ss d.
+      if fits limit xs then Some (function_of x xs (all ss), d) else None
 
   -- behind `const`
   unfoldable pub constant : Text → Reading Term
@@ -135,10 +136,10 @@ module _ (limit : ℕ) (part : Text → Reading Term) where
 
   -- behind `return`
   unfoldable pub returned : Text → Reading Term
-  returned a = if same_line a then (read (suc limit) a >>= λ e b. closed (return_of e) b) else None
+  returned a = if same_line a then (read (limit + 1) a >>= λ e b. closed (return_of e) b) else None
 
   unfoldable pub effect : Text → Reading Term
-  effect a = read (suc limit) a >>= λ e b. if is_string_literal e then None else closed (statement_of e) b
+  effect a = read (limit + 1) a >>= λ e b. if is_string_literal e then None else closed (statement_of e) b
 
   unfoldable pub either : Text → Reading Term
   either a = if declares a then declaration a else if sees (word (codes "return")) a then returned (after a) else effect a
@@ -177,7 +178,7 @@ unfoldable pub item : ℕ → Text → Reading Term
 item limit a =
     if sees (word (codes "import")) a then imported (after a)
     else if sees (word (codes "export")) a then exported limit (after a)
-    else statement (suc (suc (suc limit))) a
+    else statement (limit + 3) a
 
 unfoldable pub items : ℕ → ℕ → List Term → Text → Reading (List Term)
 items limit zero found a = if list_all is_blank a then Some (found, a) else None

@@ -4,6 +4,9 @@
 mod fault;
 mod expression;
 mod found;
+mod module;
 mod names;
+mod nodes;
+mod statement;
 
 pub use fault::ReadFault;
