@@ -336,3 +336,7 @@ seen k a h = token_there a k (found_is k (lexeme a) h)
 pub sees_by : (k l : Lexeme) (a : Text) → lexeme a ≡ Some l → sees k a ≡ same_lexeme k l
 unfolding sees
 sees_by k l a h = ap (is_found k) h
+
+-- what stands in front where a token stands
+pub token_front : {a b : Text} {l : Lexeme} (t : Token narrow a l b) → front a ≡ t.spelled ++ b
+token_front {a} {b} {l} t = ap front t.whole_is ∙ front_gap t.gap (t.spelled ++ b) t.blank ∙ (spelled_finds t.is_spelled).bare

@@ -1,2 +1,6 @@
-pub mod Turns
+pub mod Each
+pub mod Opens
+pub mod Sound
+pub mod SoundModules
 pub mod Trees
+pub mod Turns
