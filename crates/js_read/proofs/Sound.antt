@@ -74,11 +74,11 @@ primary_each limit a = go (lexeme a) refl
 member_each : (limit : ℕ) (e : Term) (a b : Text) → Fits limit e a b → sees dot b ≡ true → Each (λ t c. Fits (suc limit) t a c) (member e (after b))
 unfolding member
 member_each limit e a b fits is = each_bind _ (name_each (after b)) (λ x c tok. each_some _ _ (record {
-      stands = spell.member fits.high fits.stands (seen dot b is) tok;
-      high = member_high (nat_eq (level e) 19);
-      flat = let f = fits.flat in let d = high_deep e fits.high in omega arith;
-      opens = fits.opens;
-    }))
+  stands = spell.member fits.high fits.stands (seen dot b is) tok;
+  high = member_high (nat_eq (level e) 19);
+  flat = let f = fits.flat in let d = high_deep e fits.high in omega arith;
+  opens = fits.opens;
+}))
 
 or_right : (b c : Bool) → (b || c) ≡ true → b ≡ false → c ≡ true
 or_right true c h e = absurd (cc)

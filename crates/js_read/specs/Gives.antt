@@ -1,6 +1,9 @@
 -- What a function that reads ensures.
-use Rattle.std.specs.Prelude.{◌≡◌, ◌≤◌, ℕ, Result, Ok, Err, Option, None, Some}
-use Rattle.js_term.specs.Term.{Text}
+use Rattle.std.specs.Prelude.{◌≡◌, ◌≤◌, ℕ, Result, Ok, Err, Option, None, Some, true}
+use Rattle.js_term.specs.Term.{Text, Term, depth}
+use Rattle.js_term.specs.Lexeme.{narrow}
+use Rattle.js_term.specs.Spells.{Spells}
+use Rattle.js_term.specs.Form.{is_small}
 use Rattle.js_read.specs.declared.fault.Halt.{Halt}
 use Rattle.js_read.specs.declared.fault.Halt.TheVariants as halt
 use Rattle.js_read.specs.declared.fault.ReadFault.{ReadFault}
@@ -29,3 +32,9 @@ Gives view outcome (Err e) = FailsWhole e outcome
 abbrev pub StopsBy : ℕ → ReadFault → Type 0
 StopsBy n fault.NoMemory = Unit {0}
 StopsBy n (fault.Unread at) = at ≤ n
+
+-- What an error says of the text: where it is not for want of memory, the text spells no small module of a depth of
+-- at most 512.
+abbrev pub Refuses : Text → ReadFault → Type 0
+Refuses text fault.NoMemory = Unit {0}
+Refuses text (fault.Unread at) = (t : Term) → Spells narrow text t → is_small t ≡ true → depth t ≤ 512 → ⊥

@@ -1,3 +1,4 @@
 pub mod Gives
 pub mod Nests
+pub mod Plain
 pub mod Read

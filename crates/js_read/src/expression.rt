@@ -7,9 +7,8 @@ ghost use Rattle.js_read.specs.Gives.{Reads};
 ghost use Rattle.js_read.specs.Nests.{Nests, listing, tree};
 
 use crate::fault::Halt;
-use crate::found;
 use crate::found::{Found, Listing};
-use crate::names;
+use crate::{found, names};
 use js_lex::{Lexeme, Tokens};
 use js_tree::{BindingIdentifier, Ident, Items};
 use std::alloc::Global;
@@ -45,12 +44,7 @@ fn goes_on(tokens: &Tokens<'_>) -> bool
 
 /// The member behind the `.`, of an object that begins at `start`.
 #[tactic(auto, unfolding(crate::specs::Read::member))]
-fn member(
-    alloc: Global,
-    tokens: &mut Tokens<'_>,
-    start: u32,
-    object: Found,
-) -> Result<Found, Halt>
+fn member(alloc: Global, tokens: &mut Tokens<'_>, start: u32, object: Found) -> Result<Found, Halt>
     requires { object.depth < 2 ^ 32 }
     ensures reads { Reads tree (spec.member (tree object) tokens.old) result tokens.new }
     ensures flat { IfOk result (λ f. f.depth ≡ object.depth + 1) }

@@ -1,15 +1,19 @@
 //! Imports, exports and whole modules.
 
-ghost use Rattle.std.specs.Prelude.{◌≡◌, ◌≤◌, ◌+◌, ◌<◌, ◌^◌, [], length, map, IfOk, IfErr};
+ghost use Rattle.std.specs.Prelude.{◌≡◌, ◌≤◌, ◌+◌, ◌<◌, ◌^◌, [], length, map, true, IfOk, IfErr};
 ghost use Rattle.js_tree.specs.TermOf.{specifier_term, statement_term, program_term};
 ghost use Rattle.js_read.specs.Read as spec;
-ghost use Rattle.js_term.specs.Term.{Text, all};
+ghost use Rattle.js_term.specs.Term.{Text, Term, all, depth};
+ghost use Rattle.js_term.specs.Lexeme.{narrow};
+ghost use Rattle.js_term.specs.Spells.{Spells};
+ghost use Rattle.js_term.specs.Form.{is_small};
 ghost use Rattle.js_term.specs.Node.{program_of};
-ghost use Rattle.js_read.specs.Gives.{Reads, Gives, StopsBy};
+ghost use Rattle.js_read.specs.Gives.{Reads, Gives, Refuses, StopsBy};
 
 use crate::fault::{Halt, ReadFault};
 use crate::names::{binding, expect, expect_word, is_reserved, name, span_from, string};
 use crate::nodes;
+use crate::small::is_small_by;
 use crate::statement::{Bodies, declares, statement};
 use js_lex::Tokens;
 use js_tree::{
@@ -102,11 +106,7 @@ fn imported(alloc: Global, tokens: &mut Tokens<'_>, start: u32) -> Result<Statem
     expect_word(tokens, "from")?;
     let source = string(alloc, tokens)?;
     expect(tokens, b';')?;
-    Ok(nodes::imported(
-        span_from(start, tokens),
-        specifiers,
-        source,
-    ))
+    Ok(nodes::imported(span_from(start, tokens), specifiers, source))
 }
 
 /// The export behind the word `export`, which stands at `start`.
@@ -208,4 +208,21 @@ pub(crate) fn read_program(alloc: Global, text: &str) -> Result<Program, ReadFau
             at: text.len().saturating_sub(tokens.ahead()),
         }),
     }
+}
+
+/// The small module that the text spells.
+pub fn read_module(alloc: Global, text: &str) -> Result<Program, ReadFault>
+    requires { length text.now ≤ 4294967295 }
+    ensures spelled { IfOk result (λ p. Spells narrow text.now (program_term p)) }
+    ensures small { IfOk result (λ p. is_small (program_term p) ≡ true) }
+    ensures shallow { IfOk result (λ p. depth (program_term p) ≤ 512) }
+    ensures unique { IfOk result (λ p. (t : Term) → Spells narrow text.now t → is_small t ≡ true → depth t ≤ 512 → t ≡ program_term p) }
+    ensures unread { IfErr result (λ e. Refuses text.now e) }
+    ensures hint { IfErr result (λ e. StopsBy (length text.now) e) }
+{
+    let program = read_program(alloc, text)?;
+    if !is_small_by(alloc, &program)? {
+        return Err(ReadFault::Unread { at: 0 });
+    }
+    Ok(program)
 }

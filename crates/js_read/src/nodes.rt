@@ -59,9 +59,7 @@ pub(crate) fn function(
         body,
         scope_id: None,
     };
-    Ok(Declaration::FunctionDeclaration(Boxed::new(
-        alloc, function,
-    )?))
+    Ok(Declaration::FunctionDeclaration(Boxed::new(alloc, function)?))
 }
 
 /// The declaration as a statement.
@@ -82,10 +80,7 @@ pub(crate) fn returned(
     ensures { IfOk result (λ s. statement_term s ≡ node.return_of (expression_term argument)) }
 {
     let argument = Some(Boxed::new(alloc, argument)?);
-    Ok(Statement::ReturnStatement(ReturnStatement {
-        span,
-        argument,
-    }))
+    Ok(Statement::ReturnStatement(ReturnStatement { span, argument }))
 }
 
 pub(crate) fn effect(
@@ -96,10 +91,7 @@ pub(crate) fn effect(
     ensures { IfOk result (λ s. statement_term s ≡ node.statement_of (expression_term expression)) }
 {
     let expression = Boxed::new(alloc, expression)?;
-    Ok(Statement::ExpressionStatement(ExpressionStatement {
-        span,
-        expression,
-    }))
+    Ok(Statement::ExpressionStatement(ExpressionStatement { span, expression }))
 }
 
 pub(crate) fn imported(

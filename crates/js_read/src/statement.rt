@@ -8,9 +8,8 @@ ghost use Rattle.js_read.specs.Nests.{Holds, parameter_name, parameter_names, st
 
 use crate::expression::expression;
 use crate::fault::Halt;
-use crate::found;
 use crate::names::{binding, expect, span_from};
-use crate::nodes;
+use crate::{found, nodes};
 use js_lex::Tokens;
 use js_tree::{
     BindingPattern, Declaration, FormalParameter, FormalParameters, FunctionBody, Items, Statement,
@@ -211,7 +210,11 @@ impl<F: Fn(Global, &mut Tokens<'_>, u16) -> Result<Statement, Halt>> Bodies<F> {
 
 /// A statement of at most this depth.
 #[tactic(auto, unfolding(crate::specs::Read::statement))]
-pub(crate) fn statement(alloc: Global, tokens: &mut Tokens<'_>, depth: u16) -> Result<Statement, Halt>
+pub(crate) fn statement(
+    alloc: Global,
+    tokens: &mut Tokens<'_>,
+    depth: u16,
+) -> Result<Statement, Halt>
     ensures { Reads statement_term (spec.statement depth tokens.old) result tokens.new }
 {
     if depth < 2 {
