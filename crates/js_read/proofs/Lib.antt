@@ -1,0 +1,10 @@
+pub mod Complete
+pub mod CompleteModules
+pub mod Each
+pub mod Opens
+pub mod Parts
+pub mod Plain
+pub mod Sound
+pub mod SoundModules
+pub mod Trees
+pub mod Turns

@@ -1,0 +1,4 @@
+use Rattle.js_read.proofs.expression.+expression.Given as goal
+
+abbrev pub decreases-expression : goal.decreases-expression
+decreases-expression l = l.depth

@@ -1,0 +1,4 @@
+pub mod Gives
+pub mod Nests
+pub mod Plain
+pub mod Read
