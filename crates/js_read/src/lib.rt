@@ -7,7 +7,6 @@ mod found;
 mod module;
 mod names;
 mod nodes;
-mod small;
 mod statement;
 
 pub use fault::ReadFault;

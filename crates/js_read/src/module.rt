@@ -13,9 +13,9 @@ ghost use Rattle.js_read.specs.Gives.{Reads, Gives, Refuses, StopsBy};
 use crate::fault::{Halt, ReadFault};
 use crate::names::{binding, expect, expect_word, is_reserved, name, span_from, string};
 use crate::nodes;
-use crate::small::is_small_by;
 use crate::statement::{Bodies, declares, statement};
 use js_lex::Tokens;
+use js_small::is_small_by;
 use js_tree::{
     BindingIdentifier, IdentifierName, ImportSpecifier, Items, ModuleExportName, Program, Span,
     Statement,
