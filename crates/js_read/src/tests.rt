@@ -8,9 +8,132 @@ use std::alloc::Global;
 use std::process::Abort;
 use std::test::Fail;
 
-fn piece(text: &str, span: Span) -> &str {
-    text.get(span.start as usize..span.end as usize)
+const TEXT: &str =
+    " import { a as b } from 'm';\nexport function f(x, y) { return g(x.p, 1); }\nconst s = 't';\nf(s); ";
+
+/// The part of the text that a node stands in.
+fn piece(span: Span) -> &'static str {
+    TEXT.get(span.start as usize..span.end as usize)
         .unwrap_or("nowhere")
+}
+
+fn check_import(rt: &impl Abort, import: &ImportDeclaration) {
+    assert_eq!(rt; piece(import.span), "import { a as b } from 'm';");
+    assert_eq!(rt; piece(import.source.span), "'m'");
+    let Some(specifiers) = &import.specifiers else {
+        return assert!(rt; false);
+    };
+    let Some(specifier) = specifiers.get(0) else {
+        return assert!(rt; false);
+    };
+    assert_eq!(rt; piece(specifier.span), "a as b");
+    assert_eq!(rt; piece(specifier.local.span), "b");
+    let ModuleExportName::IdentifierName(imported) = &specifier.imported else {
+        return assert!(rt; false);
+    };
+    assert_eq!(rt; piece(imported.span), "a");
+}
+
+fn check_parameters(rt: &impl Abort, parameters: &FormalParameters) {
+    assert_eq!(rt; piece(parameters.span), "(x, y)");
+    let Some(parameter) = parameters.items.get(1) else {
+        return assert!(rt; false);
+    };
+    let BindingPattern::BindingIdentifier(id) = &parameter.pattern;
+    assert_eq!(rt; piece(parameter.span), "y");
+    assert_eq!(rt; piece(id.span), "y");
+}
+
+fn check_call(rt: &impl Abort, call: &Expression) {
+    let Expression::CallExpression(call) = call else {
+        return assert!(rt; false);
+    };
+    assert_eq!(rt; piece(call.span), "g(x.p, 1)");
+    let Expression::Identifier(callee) = call.callee.get() else {
+        return assert!(rt; false);
+    };
+    assert_eq!(rt; piece(callee.span), "g");
+    let Some(Expression::StaticMemberExpression(member)) = call.arguments.get(0) else {
+        return assert!(rt; false);
+    };
+    assert_eq!(rt; piece(member.span), "x.p");
+    assert_eq!(rt; piece(member.property.span), "p");
+    let Some(Expression::NumericLiteral(number)) = call.arguments.get(1) else {
+        return assert!(rt; false);
+    };
+    assert_eq!(rt; piece(number.span), "1");
+}
+
+fn check_function(rt: &impl Abort, function: &Function) {
+    assert_eq!(rt;
+        piece(function.span),
+        "function f(x, y) { return g(x.p, 1); }"
+    );
+    let Some(id) = &function.id else {
+        return assert!(rt; false);
+    };
+    assert_eq!(rt; piece(id.span), "f");
+    check_parameters(rt, &function.params);
+    assert_eq!(rt; piece(function.body.span), "{ return g(x.p, 1); }");
+    let Some(Statement::ReturnStatement(returned)) = function.body.statements.get(0) else {
+        return assert!(rt; false);
+    };
+    assert_eq!(rt; piece(returned.span), "return g(x.p, 1);");
+    let Some(argument) = &returned.argument else {
+        return assert!(rt; false);
+    };
+    check_call(rt, argument.get());
+}
+
+fn check_constant(rt: &impl Abort, constant: &VariableDeclaration) {
+    assert_eq!(rt; piece(constant.span), "const s = 't';");
+    let Some(declarator) = constant.declarations.get(0) else {
+        return assert!(rt; false);
+    };
+    assert_eq!(rt; piece(declarator.span), "s = 't'");
+    let BindingPattern::BindingIdentifier(id) = &declarator.id;
+    assert_eq!(rt; piece(id.span), "s");
+    let Some(init) = &declarator.init else {
+        return assert!(rt; false);
+    };
+    let Expression::StringLiteral(string) = init.get() else {
+        return assert!(rt; false);
+    };
+    assert_eq!(rt; piece(string.span), "'t'");
+}
+
+fn check_program(rt: &impl Abort, program: &Program) {
+    assert_eq!(rt; piece(program.span), TEXT.trim());
+    let Some(Statement::ImportDeclaration(import)) = program.body.get(0) else {
+        return assert!(rt; false);
+    };
+    check_import(rt, import);
+    let Some(Statement::ExportDeclaration(export)) = program.body.get(1) else {
+        return assert!(rt; false);
+    };
+    assert_eq!(rt;
+        piece(export.span),
+        "export function f(x, y) { return g(x.p, 1); }"
+    );
+    let Declaration::FunctionDeclaration(function) = &export.declaration else {
+        return assert!(rt; false);
+    };
+    check_function(rt, function.get());
+    let Some(Statement::VariableDeclaration(constant)) = program.body.get(2) else {
+        return assert!(rt; false);
+    };
+    check_constant(rt, constant);
+    let Some(Statement::ExpressionStatement(effect)) = program.body.get(3) else {
+        return assert!(rt; false);
+    };
+    assert_eq!(rt; piece(effect.span), "f(s);");
+}
+
+#[test]
+fn spans_go_from_the_first_token_to_the_last(rt: HostRuntime) -> Result<(), Fail> {
+    let program = read_program(rt.alloc(), TEXT)?;
+    check_program(&rt, &program);
+    Ok(())
 }
 
 fn is_read(alloc: Global, text: &str) -> bool {
