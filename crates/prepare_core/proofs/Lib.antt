@@ -1,3 +1,4 @@
 pub mod Look
 pub mod Lists
 pub mod Declares
+pub mod Nodes

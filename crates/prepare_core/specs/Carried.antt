@@ -1,9 +1,14 @@
 -- A tree with each imported name written as the member of its request, as it is made of any tree. It differs from
 -- `rewritten` in two forms that small modules have not: a property loses its mark of shorthand, and an import inside a
 -- function stays as it is.
-use Rattle.std.specs.Prelude.{ℕ, suc, List, Bool, true, false, ◌&&◌}
-use Rattle.js_term.specs.Term.{Text, Kind, Term, absent, list, node, Terms, none, more}
+use Rattle.std.specs.Prelude.{ℕ, suc, List, [], ◌∷◌, map, option_map, Bool, true, false, ◌&&◌, codes}
+use Rattle.js_term.specs.Term.{Text, Kind, Term, absent, list, node, Terms, none, more, two, all, maybe, flag}
 use Rattle.js_term.specs.Scope.{role, Env, inner}
+use Rattle.js_tree.specs.TermOf.{binding_term, pattern_term, parameters_term, directive_term, name_term, function_word, property_word}
+use Rattle.js_tree.specs.declared.expression.Expression.{Expression}
+use Rattle.js_tree.specs.declared.expression.ObjectProperty.{ObjectProperty}
+use Rattle.js_tree.specs.declared.function.Function.{Function}
+use Rattle.js_tree.specs.declared.statement.VariableDeclarator.{VariableDeclarator}
 use Rattle.module_model.specs.Resolved.{finished, without_mark}
 use Rattle.module_model.specs.Run.{written}
 
@@ -47,3 +52,14 @@ abbrev mutual
   pub are_direct : Terms → Bool
   are_direct none = true
   are_direct (more t ts) = is_direct t && are_direct ts
+
+-- nodes with other parts
+
+abbrev pub function_with : Function → Terms → Term
+function_with n ss = node (function_word n.kind) (flag n.is_async (codes "async") ∷ flag n.is_generator (codes "*") ∷ []) (more (maybe (option_map binding_term n.id)) (two (parameters_term n.params) (node Kind.FunctionBody [] (two (list (all (map directive_term n.body.directives))) (list ss)))))
+
+abbrev pub property_with : ObjectProperty Expression → Term → Term
+property_with n value = node Kind.ObjectProperty (property_word n.kind ∷ flag n.method (codes "method") ∷ [] ∷ flag n.computed (codes "computed") ∷ []) (two (name_term n.key) value)
+
+abbrev pub declarator_with : VariableDeclarator → Term → Term
+declarator_with n init = node Kind.VariableDeclarator [] (two (pattern_term n.id) init)

@@ -1,7 +1,9 @@
 //! The module runner: a module in the forms that the runner runs.
 #![tactic(auto)]
 
+mod copies;
 mod fault;
+mod made;
 mod names;
 mod scopes;
 
