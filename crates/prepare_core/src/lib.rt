@@ -6,5 +6,6 @@ mod fault;
 mod made;
 mod names;
 mod scopes;
+mod walk;
 
 pub use fault::PrepareFault;
