@@ -128,7 +128,7 @@ parenthesized_carried env n m p = rw (e_ParenthesizedExpression m, e_Parenthesiz
 pub call_carried : (env : Env) (n m : CallExpression Expression) → m.optional ≡ n.optional → expression_term m.callee ≡ in_callee (expression_term n.callee) (carried env (expression_term n.callee)) → Each env n.arguments m.arguments → expression_term (expression.CallExpression m) ≡ carried env (expression_term (expression.CallExpression n))
 call_carried env n m o p q = rw (e_CallExpression m, e_CallExpression n, o, p, q, each_carried env expression_term n.arguments) refl
 
-pub member_carried : (env : Env) (n m : StaticMemberExpression Expression) → m.optional ≡ n.optional → m.property ≡ n.property → expression_term m.object ≡ carried env (expression_term n.object) → expression_term (expression.StaticMemberExpression m) ≡ carried env (expression_term (expression.StaticMemberExpression n))
+pub member_carried : (env : Env) (n m : StaticMemberExpression Expression) → m.optional ≡ n.optional → m.property.name ≡ n.property.name → expression_term m.object ≡ carried env (expression_term n.object) → expression_term (expression.StaticMemberExpression m) ≡ carried env (expression_term (expression.StaticMemberExpression n))
 member_carried env n m o q p = rw (e_StaticMemberExpression m, e_StaticMemberExpression n, o, p, q) refl
 
 pub object_carried : (env : Env) (n m : ObjectExpression Expression) → map (property_term expression_term) m.properties ≡ map (λ p. carried env (property_term expression_term p)) n.properties → expression_term (expression.ObjectExpression m) ≡ carried env (expression_term (expression.ObjectExpression n))
@@ -165,6 +165,9 @@ effect_carried env n m p = rw (s_ExpressionStatement m, s_ExpressionStatement n,
 
 pub return_carried : (env : Env) (n m : ReturnStatement Expression) → maybe (option_map expression_term m.argument) ≡ carried env (maybe (option_map expression_term n.argument)) → statement_term (statement.ReturnStatement m) ≡ carried env (statement_term (statement.ReturnStatement n))
 return_carried env n m p = rw (s_ReturnStatement m, s_ReturnStatement n, p) refl
+
+pub return_some : (env : Env) (n m : ReturnStatement Expression) (e f : Expression) → m.argument ≡ Some f → n.argument ≡ Some e → expression_term f ≡ carried env (expression_term e) → statement_term (statement.ReturnStatement m) ≡ carried env (statement_term (statement.ReturnStatement n))
+return_some env n m e f p q h = return_carried env n m (rw (p, q) h)
 
 pub import_kept : (env : Env) (n m : ImportDeclaration) → import_term m ≡ import_term n → statement_term (statement.ImportDeclaration m) ≡ carried env (statement_term (statement.ImportDeclaration n))
 import_kept env n m p = rw (s_ImportDeclaration m, s_ImportDeclaration n, p) refl
