@@ -5,3 +5,4 @@ pub mod Same
 pub mod ReadBack
 pub mod Run
 pub mod Deps
+pub mod Examples

@@ -132,8 +132,8 @@ read_parts hashbang directives es rs ts =
     let n = length rs in
     let env = output_env n ts in
     cond (fine_all (is_readable n) is_bindable ts && (fine_targets n es && has_object env es))
-        (Some (record { hashbang = hashbang; directives = directives; requests = rs; exports = targets env es; statements = resolved_each env ts }))
-        None
+    (Some (record { hashbang = hashbang; directives = directives; requests = rs; exports = targets env es; statements = resolved_each env ts }))
+    None
 
 -- of a tree without parentheses
 abbrev pub read_stripped : Term → Option Module

@@ -1,0 +1,12 @@
+pub mod EveryKind
+pub mod SameTrees
+pub mod Names
+pub mod Declared
+pub mod Related
+pub mod Reading
+pub mod Fits
+pub mod Small
+pub mod Root
+pub mod Printable
+pub mod Output
+pub mod Examples
