@@ -4,3 +4,4 @@ pub mod Declares
 pub mod Nodes
 pub mod Carry
 pub mod Variants
+pub mod Direct

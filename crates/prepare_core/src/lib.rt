@@ -3,6 +3,7 @@
 
 mod copies;
 mod fault;
+mod forms;
 mod made;
 mod names;
 mod scopes;

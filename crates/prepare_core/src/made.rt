@@ -1,22 +1,19 @@
 //! The nodes that the runner makes. They stand nowhere in the text that the module was read from.
-ghost use Rattle.js_term.specs.Node.{identifier_of, string_of, member_of, call_of, object_of, array_of, property_of, method_property_of, return_of, const_of, await_of, boolean_of};
-ghost use Rattle.js_term.specs.Term.{all, one};
-ghost use Rattle.js_tree.specs.TermOf.{expression_term, statement_term, property_term, function_term};
-ghost use Rattle.module_model.specs.Shape.{import_name, detached, descriptor, getter, request, strings, names_argument};
-ghost use Rattle.std.specs.Prelude.{◌≡◌, ◌∷◌, [], IfOk, map, codes, true};
+ghost use Rattle.js_term.specs.Node.{identifier_of, string_of, member_of, call_of, object_of, property_of, boolean_of};
+ghost use Rattle.js_term.specs.Term.{all};
+ghost use Rattle.js_tree.specs.TermOf.{expression_term, property_term};
+ghost use Rattle.module_model.specs.Shape.{import_name, detached};
+ghost use Rattle.std.specs.Prelude.{◌≡◌, IfOk, map, true};
 
 use crate::scopes::Import;
 use js_tree::{
-    ArrayExpression, AwaitExpression, BindingIdentifier, BindingPattern, BooleanLiteral, Boxed,
-    CallExpression, Expression, ExpressionStatement, FormalParameters, Function, FunctionBody,
-    FunctionKind, Ident, IdentifierName, IdentifierReference, Items, NumericLiteral,
-    ObjectExpression, ObjectProperty, PropertyKind, ReturnStatement, SequenceExpression, Span,
-    Statement, StaticMemberExpression, StringLiteral, VariableDeclaration,
-    VariableDeclarationKind, VariableDeclarator,
+    BooleanLiteral, Boxed, CallExpression, Expression, Ident, IdentifierName, IdentifierReference,
+    Items, NumericLiteral, ObjectExpression, ObjectProperty, PropertyKind, SequenceExpression,
+    Span, StaticMemberExpression, StringLiteral,
 };
 use std::alloc::{AllocError, Global};
 
-const MADE: Span = Span { start: 0, end: 0 };
+pub(crate) const MADE: Span = Span { start: 0, end: 0 };
 
 #[tactic(auto, using(crate::proofs::Nodes::identifier_made))]
 fn identifier(name: Ident) -> Expression
@@ -29,21 +26,21 @@ fn identifier(name: Ident) -> Expression
     })
 }
 
-fn identifier_named(alloc: Global, name: &str) -> Result<Expression, AllocError>
+pub(crate) fn identifier_named(alloc: Global, name: &str) -> Result<Expression, AllocError>
     ensures { IfOk result (λ it. expression_term it ≡ identifier_of name.now) }
 {
     Ok(identifier(Ident::new(alloc, name)?))
 }
 
 #[tactic(auto, using(crate::proofs::Nodes::string_made))]
-fn string(value: Ident) -> Expression
+pub(crate) fn string(value: Ident) -> Expression
     ensures { expression_term result ≡ string_of value }
 {
     Expression::StringLiteral(StringLiteral { span: MADE, value })
 }
 
 #[tactic(auto, using(crate::proofs::Nodes::member_made))]
-fn member(alloc: Global, object: Expression, name: Ident) -> Result<Expression, AllocError>
+pub(crate) fn member(alloc: Global, object: Expression, name: Ident) -> Result<Expression, AllocError>
     ensures { IfOk result (λ it. expression_term it ≡ member_of (expression_term object) name) }
 {
     Ok(Expression::StaticMemberExpression(StaticMemberExpression {
@@ -55,7 +52,7 @@ fn member(alloc: Global, object: Expression, name: Ident) -> Result<Expression, 
 }
 
 #[tactic(auto, using(crate::proofs::Nodes::call_made))]
-fn call(
+pub(crate) fn call(
     alloc: Global,
     callee: Expression,
     arguments: Items<Expression>,
@@ -71,7 +68,7 @@ fn call(
 }
 
 
-fn property(alloc: Global, key: &str, value: Expression) -> Result<ObjectProperty, AllocError>
+pub(crate) fn property(alloc: Global, key: &str, value: Expression) -> Result<ObjectProperty, AllocError>
     ensures { IfOk result (λ it. property_term expression_term it ≡ property_of key.now (expression_term value)) }
 {
     let name = Ident::new(alloc, key)?;
@@ -87,7 +84,7 @@ fn property(alloc: Global, key: &str, value: Expression) -> Result<ObjectPropert
 }
 
 #[tactic(auto, using(crate::proofs::Nodes::object_made))]
-fn object(properties: Items<ObjectProperty>) -> Expression
+pub(crate) fn object(properties: Items<ObjectProperty>) -> Expression
     ensures { expression_term result ≡ object_of (all (map (property_term expression_term) properties)) }
 {
     Expression::ObjectExpression(ObjectExpression {
@@ -97,7 +94,7 @@ fn object(properties: Items<ObjectProperty>) -> Expression
 }
 
 #[tactic(auto, using(crate::proofs::Nodes::true_made))]
-fn true_property(alloc: Global, key: &str) -> Result<ObjectProperty, AllocError>
+pub(crate) fn true_property(alloc: Global, key: &str) -> Result<ObjectProperty, AllocError>
     ensures { IfOk result (λ it. property_term expression_term it ≡ property_of key.now (boolean_of true)) }
 {
     let value = Expression::BooleanLiteral(BooleanLiteral {
@@ -122,7 +119,7 @@ pub(crate) fn detach(alloc: Global, value: Expression) -> Result<Expression, All
     }))
 }
 
-fn import_text(alloc: Global, number: usize) -> Result<Ident, AllocError>
+pub(crate) fn import_text(alloc: Global, number: usize) -> Result<Ident, AllocError>
     ensures { IfOk result (λ it. it ≡ import_name number) }
 {
     let text = format!(in alloc; "__vite_ssr_import_{number}__")?;
