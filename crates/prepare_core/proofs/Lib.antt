@@ -5,3 +5,5 @@ pub mod Nodes
 pub mod Carry
 pub mod Variants
 pub mod Direct
+pub mod Parts
+pub mod Brought

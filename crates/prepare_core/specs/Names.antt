@@ -3,9 +3,9 @@ use Rattle.std.specs.Prelude.{◌≡◌, ℕ, List, [], ◌∷◌, Some, Bool, t
 use Rattle.std.specs.HashMap.{HashMap}
 use Rattle.std.specs.HashSet.{HashSet}
 use Rattle.std.specs.List.{list_any}
-use Rattle.js_term.specs.Term.{Text, is_text, Terms, more, two, maybe}
+use Rattle.js_term.specs.Term.{Text, is_text, Term, node, Terms, more, two, maybe}
 use Rattle.js_term.specs.Lexeme.{is_one_of}
-use Rattle.js_term.specs.Scope.{Scope, Env, imported, plainly, body_names}
+use Rattle.js_term.specs.Scope.{Role, role, Scope, Env, imported, plainly, body_names, entry_of, is_request}
 use Rattle.js_tree.specs.TermOf.{binding_term, parameters_term, body_term, statement_term}
 use Rattle.js_tree.specs.declared.function.Function.{Function}
 use Rattle.js_tree.specs.declared.function.FunctionKind.{FunctionKind}
@@ -52,3 +52,22 @@ function_names n = codes "arguments" ∷ body_names (is_value n.kind) (kids_of_f
 -- the keys of a set are these names
 pub record IsScopeOf (keys names : List Text) : Type 0 where
   pub same : (x : Text) → list_any (is_text x) keys ≡ is_one_of x names
+
+-- the entries of a map say of each name what a scope says
+pub record HasImports (scope : Scope) (entries : List (Text × Import)) : Type 0 where
+  pub same : (x : Text) → entry_of (brought_in entries) x ≡ entry_of scope x
+
+-- the part that a statement plays
+abbrev pub plays : (Role → Bool) → Term → Bool
+plays test (node k texts ts) = test (role k)
+plays test t = false
+
+abbrev pub is_import : Term → Bool
+is_import = plays is_request
+
+abbrev pub is_export_role : Role → Bool
+is_export_role Role.exports_declaration = true
+is_export_role r = false
+
+abbrev pub is_export : Term → Bool
+is_export = plays is_export_role

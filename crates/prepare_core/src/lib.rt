@@ -4,9 +4,11 @@
 mod copies;
 mod fault;
 mod forms;
+mod imports;
 mod made;
 mod names;
 mod scopes;
+mod statements;
 mod walk;
 
 pub use fault::PrepareFault;
