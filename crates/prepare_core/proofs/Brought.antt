@@ -15,11 +15,11 @@ use Rattle.prepare_core.specs.Names.{HasImports, brought_in, plays, is_import}
 use Rattle.prepare_core.specs.declared.scopes.Import.{Import}
 use Rattle.prepare_core.proofs.Look.{entry_for, entry_lookup, flips, differ}
 
-abbrev or_else : {A : Type 0} → Option A → Option A → Option A
+abbrev pub or_else : {A : Type 0} → Option A → Option A → Option A
 or_else None b = b
 or_else (Some a) b = Some a
 
-entry_append : (s t : Scope) (q : Text) → entry_of (s ++ t) q ≡ or_else (entry_of s q) (entry_of t q)
+pub entry_append : (s t : Scope) (q : Text) → entry_of (s ++ t) q ≡ or_else (entry_of s q) (entry_of t q)
 entry_append [] t q = refl
 entry_append (e ∷ s) t q =
     elim (is_text e.0 q) as (λ b. cond b (Some e.1) (entry_of (s ++ t) q) ≡ or_else (cond b (Some e.1) (entry_of s q)) (entry_of t q)) [ true ↦ refl | false ↦ entry_append s t q ]

@@ -81,7 +81,7 @@ mutual
   carried_alike {env} {out} a (node k xs ts) =
       turned_alike (turn k) (written env) (written out) a.same k xs ts (carried_kids (inner (role k) env ts) ts) ∙ ap (turned (turn k) (written out) k xs ts) (kids_alike (inner_alike (role k) ts a) ts)
 
-  kids_alike : {envs outs : ℕ → Env} → ((n : ℕ) → Alike (envs n) (outs n)) → (ts : Terms) → carried_kids envs ts ≡ carried_kids outs ts
+  pub kids_alike : {envs outs : ℕ → Env} → ((n : ℕ) → Alike (envs n) (outs n)) → (ts : Terms) → carried_kids envs ts ≡ carried_kids outs ts
   kids_alike ws none = refl
   kids_alike {envs} {outs} ws (more t ts) =
       ap (λ u. more u (carried_kids (λ n. envs (suc n)) ts)) (carried_alike (ws 0) t) ∙ ap (more (carried (outs 0) t)) (kids_alike (λ n. ws (suc n)) ts)

@@ -7,3 +7,6 @@ pub mod Variants
 pub mod Direct
 pub mod Parts
 pub mod Brought
+pub mod Asked
+pub mod Whole
+pub mod Deps

@@ -63,3 +63,6 @@ property_with n value = node Kind.ObjectProperty (property_word n.kind ∷ flag 
 
 abbrev pub declarator_with : VariableDeclarator → Term → Term
 declarator_with n init = node Kind.VariableDeclarator [] (two (pattern_term n.id) init)
+
+abbrev pub carried_each : Env → Terms → Terms
+carried_each env ts = carried_kids (λ n. env) ts

@@ -26,8 +26,12 @@ abbrev pub within : {S : Type 0} → Env → List (HashSet Text S) → Env
 within env [] = env
 within env (s ∷ ss) = within (plainly s.keys ∷ env) ss
 
+-- outside all functions
+abbrev pub root_env : {S : Type 0} → HashMap Text Import S → Env
+root_env imports = brought_in imports.entries ∷ []
+
 abbrev pub names_env : {S T : Type 0} → HashMap Text Import S → List (HashSet Text T) → Env
-names_env imports scopes = within (brought_in imports.entries ∷ []) scopes
+names_env imports scopes = within (root_env imports) scopes
 
 abbrev pub is_value : FunctionKind → Bool
 is_value function_kind.FunctionDeclaration = false

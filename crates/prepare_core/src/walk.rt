@@ -21,7 +21,7 @@ use std::alloc::{AllocError, Global};
 use std::collections::{HashMap, HashSet};
 
 #[tactic(auto, using(crate::proofs::Variants::import_written, crate::proofs::Nodes::identifier_made))]
-fn rewrite_reference(
+pub(crate) fn rewrite_reference(
     alloc: Global,
     imports: &HashMap<Ident, Import>,
     scopes: &[HashSet<Ident>],
@@ -258,7 +258,7 @@ fn rewrite_declarators(
 }
 
 #[cycle(rewrite)]
-fn rewrite_declaration(
+pub(crate) fn rewrite_declaration(
     alloc: Global,
     imports: &HashMap<Ident, Import>,
     scopes: &mut Items<HashSet<Ident>>,
