@@ -1,0 +1,12 @@
+pub mod Look
+pub mod Lists
+pub mod Declares
+pub mod Nodes
+pub mod Carry
+pub mod Variants
+pub mod Direct
+pub mod Parts
+pub mod Brought
+pub mod Asked
+pub mod Whole
+pub mod Deps

@@ -1,0 +1,86 @@
+-- The terms of the nodes that the runner makes.
+use Rattle.std.proofs.Common.{◌≡◌, refl, sym, ◌∙◌, ap, List, [], ◌∷◌, Option, None, Some, Bool, true, false, map, codes, ℕ, ◌++◌, ◌<◌, ◌+◌, take, length, get_or, add-one}
+use Rattle.std.proofs.Math.Seq.{take-suc}
+use Rattle.js_term.specs.Term.{Text, Term, more, append, all, one, maybe}
+use Rattle.js_term.specs.Node.{identifier_of, string_of, member_of, call_of, property_of, boolean_of, object_of, array_of, await_of, method_of, return_of, const_of, statement_of}
+use Rattle.js_tree.specs.TermOf.{expression_term, property_term, function_term, statement_term, declarator_term}
+use Rattle.js_tree.specs.declared.id.Span.{Span}
+use Rattle.js_tree.specs.declared.id.IdentifierReference.{IdentifierReference}
+use Rattle.js_tree.specs.declared.expression.BooleanLiteral.{BooleanLiteral}
+use Rattle.js_tree.specs.declared.expression.StringLiteral.{StringLiteral}
+use Rattle.js_tree.specs.declared.expression.NumericLiteral.{NumericLiteral}
+use Rattle.js_tree.specs.declared.expression.CallExpression.{CallExpression}
+use Rattle.js_tree.specs.declared.expression.ObjectProperty.{ObjectProperty}
+use Rattle.js_tree.specs.declared.expression.Expression.{Expression}
+use Rattle.js_tree.specs.declared.expression.Expression.TheVariants as expression
+use Rattle.js_tree.specs.declared.id.BindingIdentifier.{BindingIdentifier}
+use Rattle.js_tree.specs.declared.expression.AwaitExpression.{AwaitExpression}
+use Rattle.js_tree.specs.declared.function.BindingPattern.TheVariants as binding_pattern
+use Rattle.js_tree.specs.declared.function.FunctionKind.TheVariants as function_kind
+use Rattle.js_tree.specs.declared.function.Function.{Function}
+use Rattle.js_tree.specs.declared.statement.ExpressionStatement.{ExpressionStatement}
+use Rattle.js_tree.specs.declared.statement.ReturnStatement.{ReturnStatement}
+use Rattle.js_tree.specs.declared.statement.VariableDeclaration.{VariableDeclaration}
+use Rattle.js_tree.specs.declared.statement.VariableDeclarationKind.TheVariants as variable_kind
+use Rattle.js_tree.specs.declared.statement.Statement.TheVariants as statement
+use Rattle.js_tree.specs.declared.statement.VariableDeclarator.{VariableDeclarator}
+use Rattle.prepare_core.specs.Carried.{function_with, declarator_with}
+use Rattle.std.specs.Prelude.{option_map}
+use Rattle.js_tree.proofs.Levels.{e_ArrayExpression, e_AwaitExpression, e_FunctionExpression, s_ReturnStatement, s_ExpressionStatement, s_VariableDeclaration, function_parts, declarator_parts, e_BooleanLiteral, e_NumericLiteral, e_StringLiteral, e_Identifier, e_CallExpression, e_ObjectExpression, e_SequenceExpression, e_StaticMemberExpression}
+use Rattle.module_model.specs.Shape.{detached, strings}
+
+pub identifier_made : (n : IdentifierReference) → expression_term (expression.Identifier n) ≡ identifier_of n.name
+identifier_made n = e_Identifier n
+
+pub string_made : (n : StringLiteral) → expression_term (expression.StringLiteral n) ≡ string_of n.value
+string_made n = e_StringLiteral n
+
+pub true_made : (n : BooleanLiteral) → expression_term (expression.BooleanLiteral n) ≡ boolean_of n.value
+true_made n = e_BooleanLiteral n
+
+pub member_made : (span : Span) (object : Expression) (key : Text) → expression_term (expression.StaticMemberExpression (record { span = span; object = object; property = record { span = span; name = key }; optional = false })) ≡ member_of (expression_term object) key
+member_made span object key = e_StaticMemberExpression (record { span = span; object = object; property = record { span = span; name = key }; optional = false })
+
+pub call_made : (span : Span) (callee : Expression) (arguments : List Expression) → expression_term (expression.CallExpression (record { span = span; callee = callee; arguments = arguments; optional = false })) ≡ call_of (expression_term callee) (all (map expression_term arguments))
+call_made span callee arguments = e_CallExpression (record { span = span; callee = callee; arguments = arguments; optional = false })
+
+pub object_made : (span : Span) (properties : List (ObjectProperty Expression)) → expression_term (expression.ObjectExpression (record { span = span; properties = properties })) ≡ object_of (all (map (property_term expression_term) properties))
+object_made span properties = e_ObjectExpression (record { span = span; properties = properties })
+
+pub detached_made : (span : Span) (value : Expression) → expression_term (expression.SequenceExpression (record { span = span; expressions = expression.NumericLiteral (record { span = span; raw = codes "0" }) ∷ value ∷ [] })) ≡ detached (expression_term value)
+detached_made span value = e_SequenceExpression (record { span = span; expressions = expression.NumericLiteral (record { span = span; raw = codes "0" }) ∷ value ∷ [] }) ∙ rw (e_NumericLiteral (record { span = span; raw = codes "0" })) refl
+
+pub function_made : (n m : Function) → m.kind ≡ n.kind → m.id ≡ n.id → m.is_async ≡ n.is_async → m.is_generator ≡ n.is_generator → m.params.items ≡ n.params.items → m.body.directives ≡ n.body.directives → function_term m ≡ function_with n (all (map statement_term m.body.statements))
+function_made n m k i a g p d = rw (function_parts m, k, i, a, g, p, d) refl
+
+pub declarator_made : (n m : VariableDeclarator) → m.id ≡ n.id → declarator_term m ≡ declarator_with n (maybe (option_map expression_term m.init))
+declarator_made n m i = rw (declarator_parts m, i) refl
+
+pub method_made : (m : Function) (span : Span) (target : Expression) → m.kind ≡ function_kind.FunctionExpression → m.id ≡ None → m.is_async ≡ false → m.is_generator ≡ false → m.params.items ≡ [] → m.body.directives ≡ [] → m.body.statements ≡ statement.ReturnStatement (record { span = span; argument = Some target }) ∷ [] → function_term m ≡ method_of [] (one (return_of (expression_term target)))
+method_made m span target k i a g p d s = rw (function_parts m, k, i, a, g, p, d, s, s_ReturnStatement (record { span = span; argument = Some target })) refl
+
+pub value_made : (n : Function) → expression_term (expression.FunctionExpression n) ≡ function_term n
+value_made = e_FunctionExpression
+
+pub effect_made : (span : Span) (e : Expression) → statement_term (statement.ExpressionStatement (record { span = span; expression = e })) ≡ statement_of (expression_term e)
+effect_made span e = s_ExpressionStatement (record { span = span; expression = e })
+
+pub array_made : (span : Span) (elements : List Expression) → expression_term (expression.ArrayExpression (record { span = span; elements = elements })) ≡ array_of (all (map expression_term elements))
+array_made span elements = e_ArrayExpression (record { span = span; elements = elements })
+
+pub await_made : (span : Span) (e : Expression) → expression_term (expression.AwaitExpression (record { span = span; argument = e })) ≡ await_of (expression_term e)
+await_made span e = e_AwaitExpression (record { span = span; argument = e })
+
+strings_append : (xs : List Text) (x : Text) → strings (xs ++ x ∷ []) ≡ append (strings xs) (one (string_of x))
+strings_append [] x = refl
+strings_append (y ∷ xs) x = ap (more (string_of y)) (strings_append xs x)
+
+pub all_append : {A : Type 0} (f : A → Term) (xs : List A) (x : A) → all (map f (xs ++ x ∷ [])) ≡ append (all (map f xs)) (one (f x))
+all_append f [] x = refl
+all_append f (y ∷ xs) x = ap (more (f y)) (all_append f xs x)
+
+pub strings_more : (names : List Text) (es : List Expression) (e : Expression) (i : ℕ) (d : Text) → all (map expression_term es) ≡ strings (take i names) → i < length names → expression_term e ≡ string_of (get_or names i d) → all (map expression_term (es ++ e ∷ [])) ≡ strings (take (i + 1) names)
+strings_more names es e i d p h q = rw (add-one, take-suc names i d h, strings_append (take i names) (get_or names i d), all_append expression_term es e, p, q) refl
+
+pub const_made : (n : VariableDeclaration VariableDeclarator) (m : VariableDeclarator) (b : BindingIdentifier) (value : Expression) → n.kind ≡ variable_kind.Const → n.declarations ≡ m ∷ [] → m.id ≡ binding_pattern.BindingIdentifier b → m.init ≡ Some value → statement_term (statement.VariableDeclaration n) ≡ const_of b.name (expression_term value)
+const_made n m b value k d i e = rw (s_VariableDeclaration n, k, d) (rw (declarator_parts m, i, e) refl)

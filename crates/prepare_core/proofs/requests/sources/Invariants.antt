@@ -1,0 +1,8 @@
+use Rattle.std.proofs.Common.{◌≡◌, take, map}
+use Rattle.js_term.specs.Term.{all}
+use Rattle.js_tree.specs.TermOf.{statement_term}
+use Rattle.module_model.specs.Meaning.{requests, sources_of}
+use Rattle.prepare_core.proofs.requests.sources.Given as goal
+
+abbrev pub invariant-loop-one : goal.invariant-loop-one
+invariant-loop-one l = l.out.items ≡ sources_of (requests (all (map statement_term (take l.one-index l.body))))

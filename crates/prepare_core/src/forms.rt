@@ -1,0 +1,186 @@
+//! The two forms that the runner gives a meaning: getters of exports, and requests.
+ghost use Rattle.js_term.specs.Node.{identifier_of, member_of, array_of, object_of, property_of, method_of, method_property_of, return_of, string_of, await_of, const_of};
+ghost use Rattle.js_term.specs.Term.{all, one, more};
+ghost use Rattle.js_tree.specs.TermOf.{expression_term, statement_term, property_term, function_term};
+ghost use Rattle.module_model.specs.Shape.{marked, descriptor, getter, request, strings, names_argument};
+ghost use Rattle.std.specs.Prelude.{◌≡◌, ◌∷◌, [], IfOk, map, codes};
+
+use crate::made::{
+    MADE, call, identifier_named, import_text, member, object, property, string, true_property,
+};
+use js_tree::{
+    ArrayExpression, AwaitExpression, BindingIdentifier, BindingPattern, Boxed, Expression,
+    ExpressionStatement, FormalParameters, Function, FunctionBody, FunctionKind, Ident,
+    IdentifierName, Items, ObjectProperty, PropertyKind, ReturnStatement, Statement,
+    VariableDeclaration, VariableDeclarationKind, VariableDeclarator,
+};
+use std::alloc::{AllocError, Global};
+
+/// `() { return target; }`
+#[tactic(auto, using(crate::proofs::Nodes::method_made))]
+fn returning(alloc: Global, target: Expression) -> Result<Function, AllocError>
+    ensures { IfOk result (λ it. function_term it ≡ method_of [] (one (return_of (expression_term target)))) }
+{
+    let argument = Boxed::new(alloc, target)?;
+    let mut statements = Items::new(alloc);
+    statements.push(Statement::ReturnStatement(ReturnStatement {
+        span: MADE,
+        argument: Some(argument),
+    }))?;
+    Ok(Function {
+        span: MADE,
+        kind: FunctionKind::FunctionExpression,
+        id: None,
+        is_async: false,
+        is_generator: false,
+        params: FormalParameters {
+            span: MADE,
+            items: Items::new(alloc),
+        },
+        body: FunctionBody {
+            span: MADE,
+            directives: Items::new(alloc),
+            statements,
+        },
+        scope_id: None,
+    })
+}
+
+#[tactic(auto, using(crate::proofs::Nodes::value_made))]
+fn get_method(alloc: Global, target: Expression) -> Result<ObjectProperty, AllocError>
+    ensures { IfOk result (λ it. property_term expression_term it ≡ method_property_of (codes "get") [] (one (return_of (expression_term target)))) }
+{
+    let name = Ident::new(alloc, "get")?;
+    let made = Boxed::new(alloc, returning(alloc, target)?)?;
+    let value = Boxed::new(alloc, Expression::FunctionExpression(made))?;
+    Ok(ObjectProperty {
+        span: MADE,
+        kind: PropertyKind::Init,
+        key: IdentifierName { span: MADE, name },
+        value,
+        method: true,
+        shorthand: false,
+        computed: false,
+    })
+}
+
+fn described(alloc: Global, target: Expression) -> Result<Expression, AllocError>
+    ensures { IfOk result (λ it. expression_term it ≡ object_of (descriptor (expression_term target))) }
+{
+    let mut properties = Items::new(alloc);
+    properties.push(true_property(alloc, "enumerable")?)?;
+    properties.push(true_property(alloc, "configurable")?)?;
+    properties.push(get_method(alloc, target)?)?;
+    Ok(object(properties))
+}
+
+fn define_property(alloc: Global) -> Result<Expression, AllocError>
+    ensures { IfOk result (λ it. expression_term it ≡ member_of (identifier_of (codes "Object")) (codes "defineProperty")) }
+{
+    let object = identifier_named(alloc, "Object")?;
+    member(alloc, object, Ident::new(alloc, "defineProperty")?)
+}
+
+/// The getter of the export `name`, which reads `target` when it is called.
+#[tactic(auto, using(crate::proofs::Nodes::effect_made))]
+pub(crate) fn getter(
+    alloc: Global,
+    name: Ident,
+    target: Expression,
+) -> Result<Statement, AllocError>
+    ensures { IfOk result (λ it. statement_term it ≡ getter name (expression_term target)) }
+{
+    let mut arguments = Items::new(alloc);
+    arguments.push(identifier_named(alloc, "__vite_ssr_exports__")?)?;
+    arguments.push(string(name))?;
+    arguments.push(described(alloc, target)?)?;
+    let expression = call(alloc, define_property(alloc)?, arguments)?;
+    Ok(Statement::ExpressionStatement(ExpressionStatement {
+        span: MADE,
+        expression: Boxed::new(alloc, expression)?,
+    }))
+}
+
+#[tactic(auto, using(crate::proofs::Nodes::strings_more, crate::proofs::Nodes::array_made))]
+fn names_array(alloc: Global, names: &[Ident]) -> Result<Expression, AllocError>
+    ensures { IfOk result (λ it. expression_term it ≡ array_of (strings names.now)) }
+{
+    let mut elements = Items::new(alloc);
+    for one in names {
+        elements.push(string(one.clone()?))?;
+    }
+    Ok(Expression::ArrayExpression(ArrayExpression {
+        span: MADE,
+        elements,
+    }))
+}
+
+fn names_object(alloc: Global, names: &[Ident]) -> Result<Expression, AllocError>
+    ensures { IfOk result (λ it. expression_term it ≡ object_of (one (property_of (codes "importedNames") (array_of (strings names.now))))) }
+{
+    let array = names_array(alloc, names)?;
+    let mut properties = Items::new(alloc);
+    properties.push(property(alloc, "importedNames", array)?)?;
+    Ok(object(properties))
+}
+
+fn request_arguments(
+    alloc: Global,
+    source: Ident,
+    names: Option<Items<Ident>>,
+) -> Result<Items<Expression>, AllocError>
+    ensures { IfOk result (λ it. all (map expression_term it) ≡ more (string_of source) (names_argument names)) }
+{
+    let mut arguments = Items::new(alloc);
+    arguments.push(string(source))?;
+    if let Some(names) = names {
+        arguments.push(names_object(alloc, names.as_slice())?)?;
+    }
+    Ok(arguments)
+}
+
+#[tactic(auto, using(crate::proofs::Nodes::await_made))]
+fn awaited(alloc: Global, value: Expression) -> Result<Expression, AllocError>
+    ensures { IfOk result (λ it. expression_term it ≡ await_of (expression_term value)) }
+{
+    Ok(Expression::AwaitExpression(AwaitExpression {
+        span: MADE,
+        argument: Boxed::new(alloc, value)?,
+    }))
+}
+
+#[tactic(auto, using(crate::proofs::Nodes::const_made))]
+fn constant(alloc: Global, name: Ident, value: Expression) -> Result<Statement, AllocError>
+    ensures { IfOk result (λ it. statement_term it ≡ const_of name (expression_term value)) }
+{
+    let init = Boxed::new(alloc, value)?;
+    let mut declarations = Items::new(alloc);
+    declarations.push(VariableDeclarator {
+        span: MADE,
+        id: BindingPattern::BindingIdentifier(BindingIdentifier {
+            span: MADE,
+            name,
+            symbol_id: None,
+        }),
+        init: Some(init),
+    })?;
+    Ok(Statement::VariableDeclaration(VariableDeclaration {
+        span: MADE,
+        kind: VariableDeclarationKind::Const,
+        declarations,
+    }))
+}
+
+/// The request with this number, which names what is imported, where there are names.
+pub(crate) fn request(
+    alloc: Global,
+    number: usize,
+    source: Ident,
+    names: Option<Items<Ident>>,
+) -> Result<Statement, AllocError>
+    ensures { IfOk result (λ it. statement_term it ≡ request number source names) }
+{
+    let callee = identifier_named(alloc, "__vite_ssr_import__")?;
+    let asked = call(alloc, callee, request_arguments(alloc, source, names)?)?;
+    constant(alloc, import_text(alloc, number)?, awaited(alloc, asked)?)
+}

@@ -1,0 +1,19 @@
+//! The module runner: a module in the forms that the runner gives a meaning.
+#![tactic(auto)]
+
+mod copies;
+mod exports;
+mod fault;
+mod forms;
+mod imports;
+mod kept;
+mod made;
+mod names;
+mod prepare;
+mod requests;
+mod scopes;
+mod statements;
+mod walk;
+
+pub use fault::PrepareFault;
+pub use prepare::{Prepared, prepare_module};
