@@ -3,3 +3,4 @@ pub mod Whole
 pub mod Asking
 pub mod Given
 pub mod OneWord
+pub mod Texts

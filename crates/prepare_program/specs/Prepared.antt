@@ -8,12 +8,18 @@ use Rattle.module_model.specs.Meaning.{meaning, sources_of}
 use Rattle.module_model.specs.ReadBack.{read_back}
 use Rattle.module_model.specs.Deps.{AreDeps}
 
-pub record IsPrepared (text written : Text) (deps dynamic_deps : List Text) : Type 0 where
-  -- the text spells a small module, not nested too deep
-  pub module_read : Term
+-- the text spells a small module, not nested too deep
+pub record IsRead (text : Text) (module_read : Term) : Type 0 where
   pub spelled : Spells Manner.narrow text module_read
   pub small : is_small module_read ≡ true
   pub shallow : depth module_read ≤ 512
+
+abbrev pub IsUnreadable : Text → Type 0
+IsUnreadable text = (module_read : Term) → IsRead text module_read → ⊥
+
+pub record IsPrepared (text written : Text) (deps dynamic_deps : List Text) : Type 0 where
+  pub module_read : Term
+  pub is_read : IsRead text module_read
   -- what is written spells a module of calls of the module runner that means the same
   pub module_written : Term
   pub written_spelled : Spells Manner.whole written module_written
