@@ -9,6 +9,8 @@ mod running;
 mod sure;
 #[cfg(test)]
 mod tests;
+#[cfg(test)]
+mod tests_of_modules;
 mod text;
 mod words;
 
