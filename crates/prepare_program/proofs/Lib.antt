@@ -3,3 +3,5 @@ pub mod Whole
 pub mod Asking
 pub mod Given
 pub mod OneWord
+pub mod Reasons
+pub mod Statuses

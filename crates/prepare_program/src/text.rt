@@ -1,6 +1,6 @@
 // From the text of a module to calls of the module runner.
-ghost use Rattle.std.specs.Prelude.{◌≡◌, string_bytes, IfOk};
-ghost use Rattle.prepare_program.specs.Prepared.{IsPrepared};
+ghost use Rattle.std.specs.Prelude.{◌≡◌, string_bytes, IfOk, IsErrOf};
+ghost use Rattle.prepare_program.specs.Prepared.{IsPrepared, IsUnreadable};
 
 use js_ident::Ident;
 use std::alloc::{AllocError, Global};
@@ -35,7 +35,8 @@ impl From<AllocError> for TextFault {
 
 /// Reads the module, and writes it as calls of the module runner.
 pub fn prepare_text(alloc: Global, text: &str) -> Result<PreparedText, TextFault>
-    ensures { IfOk result (λ made. IsPrepared text.now (string_bytes made.module) made.deps.items made.dynamic_deps.items) }
+    ensures made { IfOk result (λ made. IsPrepared text.now (string_bytes made.module) made.deps.items made.dynamic_deps.items) }
+    ensures unread { IsErrOf result TextFault.Unread → IsUnreadable text.now }
 {
     Err(TextFault::NoMemory)
 }
