@@ -1,4 +1,5 @@
--- What the module text read, the module text written and the two lists of sources have to do with each other.
+-- Which module texts can be prepared, and what the module text read, the module text written and the two lists of
+-- sources have to do with each other.
 use Rattle.std.specs.Prelude.{◌≡◌, ◌≤◌, List, [], true, Some}
 use Rattle.js_term.specs.Term.{Text, Term, depth}
 use Rattle.js_term.specs.Lexeme.{Manner}
@@ -8,18 +9,23 @@ use Rattle.module_model.specs.Meaning.{meaning, sources_of}
 use Rattle.module_model.specs.ReadBack.{read_back}
 use Rattle.module_model.specs.Deps.{AreDeps}
 
--- the text spells a small module, not nested too deep
-pub record IsRead (text : Text) (module_read : Term) : Type 0 where
+-- the text spells a small module that is not nested too deep
+pub record IsReadable (text : Text) : Type 0 where
+  pub module_read : Term
   pub spelled : Spells Manner.narrow text module_read
   pub small : is_small module_read ≡ true
   pub shallow : depth module_read ≤ 512
 
+-- the text spells no such module
 abbrev pub IsUnreadable : Text → Type 0
-IsUnreadable text = (module_read : Term) → IsRead text module_read → ⊥
+IsUnreadable text = (t : Term) → Spells Manner.narrow text t → is_small t ≡ true → depth t ≤ 512 → ⊥
 
 pub record IsPrepared (text written : Text) (deps dynamic_deps : List Text) : Type 0 where
+  -- the text spells a small module, not nested too deep
   pub module_read : Term
-  pub is_read : IsRead text module_read
+  pub spelled : Spells Manner.narrow text module_read
+  pub small : is_small module_read ≡ true
+  pub shallow : depth module_read ≤ 512
   -- what is written spells a module of calls of the module runner that means the same
   pub module_written : Term
   pub written_spelled : Spells Manner.whole written module_written

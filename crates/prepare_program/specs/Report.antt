@@ -7,7 +7,7 @@ use Rattle.serde_json.specs.Written.{compact_text}
 use Rattle.prepare_program.specs.declared.fault.Fault.{Fault}
 use Rattle.prepare_program.specs.declared.fault.Fault.TheVariants as rust
 use Rattle.prepare_program.specs.Request.{Asked, for_module, request}
-use Rattle.prepare_program.specs.Prepared.{IsPrepared}
+use Rattle.prepare_program.specs.Prepared.{IsReadable, IsUnreadable, IsPrepared}
 
 abbrev pub line : Data → Text
 line value = compact_text value ++ 10 ∷ []
@@ -34,12 +34,20 @@ fault_value (bad_request key) = object (member (codes "fault") (string (codes "B
     (member (codes "key") (string key) no_members))
 fault_value unread = object (member (codes "fault") (string (codes "Unread")) no_members)
 
--- The reason has its cause in these bytes. Of `unread` this says only that a module was asked for: which texts
--- are read is still to be said here.
+-- The reason has its cause in these bytes: they are no JSON text, or they are no request, or the module text that
+-- they ask for spells no module that is read. No two of these hold of the same bytes.
 abbrev pub IsCaused : Text → Reason → Type 0
 IsCaused bytes not_json = request bytes ≡ Asked.not_json
 IsCaused bytes (bad_request key) = request bytes ≡ Asked.bad_request key
-IsCaused bytes unread = (text : Text) × (request bytes ≡ for_module text)
+IsCaused bytes unread = (text : Text) × (request bytes ≡ for_module text) × IsUnreadable text
+
+-- there is a reason to refuse the request
+abbrev pub HasReason : Text → Type 0
+HasReason bytes = (reason : Reason) × IsCaused bytes reason
+
+-- the bytes ask for a module that is read
+abbrev pub IsForReadable : Text → Type 0
+IsForReadable bytes = (text : Text) × (request bytes ≡ for_module text) × IsReadable text
 
 -- the line reports what becomes of the module that these bytes ask for
 pub record Reports (bytes written : Text) : Type 0 where
@@ -51,10 +59,11 @@ pub record Reports (bytes written : Text) : Type 0 where
   pub prepared : IsPrepared text module_text deps dynamic_deps
   pub line_is : written ≡ line (report module_text deps dynamic_deps)
 
--- the line names a fault that has its cause in these bytes
+-- The line names the one reason that has its cause in these bytes. So it is the first of them, in any order.
 pub record Refuses (bytes written : Text) : Type 0 where
   pub reason : Reason
   pub caused : IsCaused bytes reason
+  pub only : (other : Reason) → IsCaused bytes other → other ≡ reason
   pub line_is : written ≡ line (fault_value reason)
 
 -- the reason that a fault of the program stands for; want of memory is none

@@ -1,5 +1,5 @@
 -- What a request asks for: one JSON object, whose member `module` is a text, and which has no other.
-use Rattle.std.specs.Prelude.{◌≡◌, ◌⊎◌, [], Bool, if◌then◌else◌, Option, None, Some, option_and_then, codes}
+use Rattle.std.specs.Prelude.{[], Bool, if◌then◌else◌, Option, None, Some, option_and_then, codes}
 use Rattle.std.specs.Str.{bytes_eq, is_utf8}
 use Rattle.js_term.specs.Term.{Text}
 use Rattle.serde_json.specs.Data.{Data, Members, no_members, member}
@@ -41,10 +41,3 @@ asked_if_read (Some value) = asked_of value
 -- what these bytes ask for
 unfoldable pub request : Text → Asked
 request bytes = if is_utf8 bytes then asked_if_read (read bytes) else not_json
-
-abbrev pub IsForModule : Text → Type 0
-IsForModule bytes = (text : Text) × (request bytes ≡ for_module text)
-
--- the bytes are no request
-abbrev pub IsWrong : Text → Type 0
-IsWrong bytes = (request bytes ≡ not_json) ⊎ ((key : Text) × (request bytes ≡ bad_request key))

@@ -3,7 +3,7 @@ ghost use Rattle.std.specs.Prelude.{◌≡◌, ◌⊎◌, string_bytes, IfOk, If
 ghost use Rattle.serde_json.specs.View.{view};
 ghost use Rattle.js_term.specs.Term.{Text};
 ghost use Rattle.prepare_program.specs.Request.{request, asked_of, for_module};
-ghost use Rattle.prepare_program.specs.Prepared.{IsPrepared};
+ghost use Rattle.prepare_program.specs.Prepared.{IsPrepared, IsUnreadable};
 ghost use Rattle.prepare_program.specs.Report.{told, IsCaused};
 ghost use Rattle.prepare_program.specs.Run.{IsAnswer};
 
@@ -36,7 +36,8 @@ fn read_value(alloc: Global, bytes: &[u8]) -> Result<Value, Fault>
 
 fn prepared(alloc: Global, text: &str) -> Result<PreparedText, Fault>
     ensures made { IfOk result (λ made. IsPrepared text.now (string_bytes made.module) made.deps.items made.dynamic_deps.items) }
-    ensures refused { IfErr result (λ fault. (fault ≡ Fault.NoMemory) ⊎ (fault ≡ Fault.Unread)) }
+    ensures refused { IfErr result (λ fault. (fault ≡ Fault.NoMemory)
+        ⊎ ((fault ≡ Fault.Unread) × IsUnreadable text.now)) }
 {
     match prepare_text(alloc, text) {
         Ok(made) => Ok(made),
@@ -62,6 +63,7 @@ fn prepare_request(alloc: Global, bytes: &[u8]) -> Result<PreparedText, Fault>
 }
 
 /// The line that answers the request in these bytes.
+#[tactic(auto, using(crate::proofs::Reasons::reason_is_only))]
 pub(crate) fn answer(alloc: Global, bytes: &[u8]) -> Result<Line, AllocError>
     ensures { IfOk result (IsAnswer bytes.now) }
 {

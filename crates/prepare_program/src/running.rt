@@ -4,8 +4,7 @@ ghost use Rattle.std.specs.Io.KnownBytes.{IsAtEnd};
 ghost use Rattle.byte_streams.specs.Causes.{Rose};
 ghost use Rattle.byte_streams.specs.Taken.{TakesAtMost};
 ghost use Rattle.prepare_program.specs.Words.{IsPrepare};
-ghost use Rattle.prepare_program.specs.Request.{IsForModule, IsWrong};
-ghost use Rattle.prepare_program.specs.Report.{Reports, Refuses};
+ghost use Rattle.prepare_program.specs.Report.{Reports, Refuses, HasReason, IsForReadable};
 ghost use Rattle.prepare_program.specs.Run.{limit, Answers, Writes, Begins, Overruns};
 
 use crate::answering::{Line, answer};
@@ -57,13 +56,19 @@ pub fn run<S: Source, K: Sink>(alloc: Global, words: &[String], source: &mut S, 
     ensures no_read_failed { ¬ (result ≡ 3) → S.faults source.new ≡ S.faults source.old }
     ensures no_write_failed { ¬ (result ≡ 4) → K.faults sink.new ≡ K.faults sink.old }
 
-    // It doesn't give up by itself, but for want of memory. Which modules are refused, no clause says yet.
+    // Whether a request is answered by a report or by a refusal is a matter of the request alone.
+    ensures reports_exactly { (result ≡ 0) ⊎ (result ≡ 1) → IfSome (S.left source.old) (λ given.
+        (result ≡ 0) ↔ IsForReadable given) }
+    ensures refuses_exactly { (result ≡ 0) ⊎ (result ≡ 1) → IfSome (S.left source.old) (λ given.
+        (result ≡ 1) ↔ HasReason given) }
+
+    // It doesn't give up by itself, but for want of memory.
     ensures completes { IsPrepare words.now → ¬ (Rose (S.faults source.old) (S.faults source.new))
         → ¬ (Rose (K.faults sink.old) (K.faults sink.new)) → IfSome (S.left source.old) (λ given.
-        length given ≤ limit → IsForModule given → (result ≡ 0) ⊎ (result ≡ 1) ⊎ (result ≡ 5)) }
+        length given ≤ limit → ¬ (HasReason given) → (result ≡ 0) ⊎ (result ≡ 5)) }
     ensures refuses { IsPrepare words.now → ¬ (Rose (S.faults source.old) (S.faults source.new))
         → ¬ (Rose (K.faults sink.old) (K.faults sink.new)) → IfSome (S.left source.old) (λ given.
-        length given ≤ limit → IsWrong given → (result ≡ 1) ⊎ (result ≡ 5)) }
+        length given ≤ limit → HasReason given → (result ≡ 1) ⊎ (result ≡ 5)) }
     ensures overruns { IsPrepare words.now → ¬ (Rose (S.faults source.old) (S.faults source.new))
         → IfSome (S.left source.old) (λ given. limit < length given → (result ≡ 6) ⊎ (result ≡ 5)) }
 {
@@ -93,12 +98,10 @@ fn prepare<S: Source, K: Sink>(alloc: Global, source: &mut S, sink: &mut K) -> u
     ensures sink_faults { K.faults sink.old ≤ K.faults sink.new }
     ensures no_read_failed { ¬ (result ≡ 3) → S.faults source.new ≡ S.faults source.old }
     ensures no_write_failed { ¬ (result ≡ 4) → K.faults sink.new ≡ K.faults sink.old }
-    ensures completes { ¬ (Rose (S.faults source.old) (S.faults source.new))
-        → ¬ (Rose (K.faults sink.old) (K.faults sink.new)) → IfSome (S.left source.old) (λ given.
-        length given ≤ limit → IsForModule given → (result ≡ 0) ⊎ (result ≡ 1) ⊎ (result ≡ 5)) }
-    ensures refuses { ¬ (Rose (S.faults source.old) (S.faults source.new))
-        → ¬ (Rose (K.faults sink.old) (K.faults sink.new)) → IfSome (S.left source.old) (λ given.
-        length given ≤ limit → IsWrong given → (result ≡ 1) ⊎ (result ≡ 5)) }
+    ensures reports_exactly { (result ≡ 0) ⊎ (result ≡ 1) → IfSome (S.left source.old) (λ given.
+        (result ≡ 0) ↔ IsForReadable given) }
+    ensures refuses_exactly { (result ≡ 0) ⊎ (result ≡ 1) → IfSome (S.left source.old) (λ given.
+        (result ≡ 1) ↔ HasReason given) }
     ensures overruns { ¬ (Rose (S.faults source.old) (S.faults source.new))
         → IfSome (S.left source.old) (λ given. limit < length given → (result ≡ 6) ⊎ (result ≡ 5)) }
 {
@@ -111,11 +114,14 @@ fn prepare<S: Source, K: Sink>(alloc: Global, source: &mut S, sink: &mut K) -> u
 }
 
 // Answers the request in these bytes, which are all that was given.
+#[tactic(auto, using(crate::proofs::Reasons::report_is_readable, crate::proofs::Reasons::readable_has_no_reason))]
 fn write_answer<K: Sink>(alloc: Global, bytes: &[u8], sink: &mut K) -> u8
     ensures status { (result ≡ 0) ⊎ (result ≡ 1) ⊎ (result ≡ 4) ⊎ (result ≡ 5) }
     ensures done { result ≡ 0 → Writes (Reports bytes.now) (K.written sink.old) (K.written sink.new) }
     ensures refused { result ≡ 1 → Writes (Refuses bytes.now) (K.written sink.old) (K.written sink.new) }
     ensures front { result ≡ 4 → Begins (Answers bytes.now) (K.written sink.old) (K.written sink.new) }
+    ensures reports_exactly { (result ≡ 0) ⊎ (result ≡ 1) → ((result ≡ 0) ↔ IsForReadable bytes.now) }
+    ensures refuses_exactly { (result ≡ 0) ⊎ (result ≡ 1) → ((result ≡ 1) ↔ HasReason bytes.now) }
     ensures failed { result ≡ 4 → Rose (K.faults sink.old) (K.faults sink.new) }
     ensures unwritten { result ≡ 5 → sink.new ≡ sink.old }
     ensures faults { K.faults sink.old ≤ K.faults sink.new }

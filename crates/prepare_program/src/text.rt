@@ -1,11 +1,14 @@
 // From the text of a module to calls of the module runner.
-ghost use Rattle.std.specs.Prelude.{◌≡◌, [], Some, true, string_bytes, IfOk, IsErrOf};
+ghost use Rattle.std.specs.Prelude.{◌≡◌, ◌≤◌, [], Some, true, string_bytes, IfOk, IsErrOf};
 ghost use Rattle.js_term.specs.Form.{is_small, is_printable};
+ghost use Rattle.js_term.specs.Lexeme.{narrow};
+ghost use Rattle.js_term.specs.Spells.{Spells};
+ghost use Rattle.js_term.specs.Term.{depth};
 ghost use Rattle.js_tree.specs.TermOf.{program_term};
 ghost use Rattle.module_model.specs.Deps.{AreDeps};
 ghost use Rattle.module_model.specs.Meaning.{meaning, sources_of};
 ghost use Rattle.module_model.specs.ReadBack.{read_back};
-ghost use Rattle.prepare_program.specs.Prepared.{IsPrepared, IsRead, IsUnreadable};
+ghost use Rattle.prepare_program.specs.Prepared.{IsPrepared, IsUnreadable};
 
 use js_ident::Ident;
 use js_print::print_program;
@@ -47,7 +50,9 @@ impl From<AllocError> for TextFault {
 
 // The module that the text spells. Byte offsets in a longer text have no room in a span.
 fn read(alloc: Global, text: &str) -> Result<Program, TextFault>
-    ensures read { IfOk result (λ program. IsRead text.now (program_term program)) }
+    ensures spelled { IfOk result (λ program. Spells narrow text.now (program_term program)) }
+    ensures small { IfOk result (λ program. is_small (program_term program) ≡ true) }
+    ensures shallow { IfOk result (λ program. depth (program_term program) ≤ 512) }
     ensures unread { IsErrOf result TextFault.Unread → IsUnreadable text.now }
 {
     if text.len() > MOST_OFFSET {
