@@ -34,6 +34,7 @@ brought_twice es x e h = record { same = λ q. sym (entry_append (brought_in es)
     kept : (o : Option Import) → is_some o ≡ true → (b : Option Entry) → or_else (option_map entry_for o) b ≡ option_map entry_for o
     kept None h b = differ (sym h)
     kept (Some i) h b = refl
+
     by : (q : Text) (b : Bool) → is_text x q ≡ b → or_else (entry_of (brought_in es) q) (cond b (Some e) None) ≡ entry_of (brought_in es) q
     by q false p = itself (brought_in es) q
     by q true p =
@@ -47,6 +48,7 @@ brought_once es fs x i h e = record { same = λ q. entry_lookup fs q ∙ ap (opt
     absent : (o : Option Import) → is_some o ≡ false → (b : Option Entry) → b ≡ or_else (option_map entry_for o) b
     absent None h b = refl
     absent (Some j) h b = differ h
+
     by : (q : Text) (b : Bool) → is_text x q ≡ b → option_map entry_for (cond b (Some i) (lookup (is_text q) es)) ≡ or_else (entry_of (brought_in es) q) (cond b (Some (entry_for i)) None)
     by q false p = sym (entry_lookup es q) ∙ sym (itself (brought_in es) q)
     by q true p =

@@ -92,7 +92,7 @@ call_entry : (xs : List Text) (x : Text) → entry_of (call_scope xs) x ≡ cond
 call_entry [] x = rw (flips (codes "arguments") x) refl
 call_entry (y ∷ ys) x =
     rw (flips y x)
-        (elim (is_text x y) as (λ b. cond b (Some here) (entry_of (call_scope ys) x) ≡ cond (b || is_one_of x ys) (Some here) (cond (is_text x (codes "arguments")) (Some arguments_object) None)) [ true ↦ refl | false ↦ call_entry ys x ])
+    (elim (is_text x y) as (λ b. cond b (Some here) (entry_of (call_scope ys) x) ≡ cond (b || is_one_of x ys) (Some here) (cond (is_text x (codes "arguments")) (Some arguments_object) None)) [ true ↦ refl | false ↦ call_entry ys x ])
 
 pub scope_alike : (keys xs : List Text) (env : Env) → IsScopeOf keys (codes "arguments" ∷ xs) → Alike (plainly keys ∷ env) (call_scope xs ∷ env)
 scope_alike keys xs env s = record { same = λ x. rw (has_entry keys x, s.same x, call_entry xs x) (by x (is_text x (codes "arguments")) (is_one_of x xs)) }
@@ -136,10 +136,13 @@ function_carried env n keys ss s e = by n.kind s ∙ ap (carried env) (sym (func
   where
     texts : List Text
     texts = flag n.is_async (codes "async") ∷ flag n.is_generator (codes "*") ∷ []
+
     kids : Terms
     kids = kids_of_function n
+
     made : FunctionKind → Term
     made k = node (function_word k) texts (more (maybe (option_map binding_term n.id)) (two (parameters_term n.params) (node Kind.FunctionBody [] (two (list (all (map directive_term n.body.directives))) (list (all (map statement_term ss)))))))
+
     by : (k : FunctionKind) → IsScopeOf keys (codes "arguments" ∷ body_names (is_value k) kids) → made k ≡ carried env (node (function_word k) texts kids)
     by function_kind.FunctionDeclaration s =
         let outer : Env = call_scope (parameter_names false kids) ∷ env in

@@ -78,8 +78,10 @@ names_inside n = by n.kind
   where
     ps : List Text
     ps = declared_all (all (map parameter_term n.params.items))
+
     ss : List Text
     ss = declared_all (all (map statement_term n.body.statements))
+
     by : (k : FunctionKind) → codes "arguments" ∷ body_names (is_value k) (kids_of_function n) ≡ (((codes "arguments" ∷ []) ++ inside k (declared (maybe (option_map binding_term n.id)))) ++ ps) ++ ss
     by function_kind.FunctionDeclaration = simp (directives_declared, append-nil, append_assoc) refl
     by function_kind.FunctionExpression = simp (directives_declared, append-nil, append_assoc) refl

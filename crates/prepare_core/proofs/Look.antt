@@ -26,7 +26,7 @@ pub has_entry : (xs : List Text) (x : Text) → entry_of (plainly xs) x ≡ cond
 has_entry [] x = refl
 has_entry (y ∷ ys) x =
     rw (flips y x)
-        (elim (is_text x y) as (λ b. cond b (Some here) (entry_of (plainly ys) x) ≡ cond (b || list_any (is_text x) ys) (Some here) None) [ true ↦ refl | false ↦ has_entry ys x ])
+    (elim (is_text x y) as (λ b. cond b (Some here) (entry_of (plainly ys) x) ≡ cond (b || list_any (is_text x) ys) (Some here) None) [ true ↦ refl | false ↦ has_entry ys x ])
 
 or_cases : (a b : Bool) → (a || b) ≡ false → (a ≡ false) × (b ≡ false)
 or_cases true b h = differ h
@@ -57,7 +57,7 @@ pub entry_lookup : (es : List (Text × Import)) (x : Text) → entry_of (brought
 entry_lookup [] x = refl
 entry_lookup (e ∷ es) x =
     rw (flips e.0 x)
-        (elim (is_text x e.0) as (λ b. cond b (Some (entry_for e.1)) (entry_of (brought_in es) x) ≡ option_map entry_for (cond b (Some e.1) (lookup (is_text x) es))) [ true ↦ refl | false ↦ entry_lookup es x ])
+    (elim (is_text x e.0) as (λ b. cond b (Some (entry_for e.1)) (entry_of (brought_in es) x) ≡ option_map entry_for (cond b (Some e.1) (lookup (is_text x) es))) [ true ↦ refl | false ↦ entry_lookup es x ])
 
 -- what the map has at a name that no function declares
 pub looked_up : {S T R : Type 0} (imports : HashMap Text Import S) (ss : List (HashSet Text T)) (x : Text) (now : R → Import) (r : Option R) → option_map now r ≡ lookup (is_text x) imports.entries → hidden ss x ≡ false → MatchOption r (written (names_env imports ss) x ≡ identifier_of x) (λ i. resolve (names_env imports ss) x ≡ import_of (now i).request (Some (now i).name))
@@ -68,7 +68,7 @@ one_of_append : (q : Text) (xs : List Text) (y : Text) → is_one_of q (xs ++ y 
 one_of_append q [] y = refl
 one_of_append q (x ∷ xs) y =
     rw (one_of_append q xs y)
-        (elim (is_text q x) as (λ b. (b || (is_text q y || is_one_of q xs)) ≡ (is_text q y || (b || is_one_of q xs))) [ true ↦ elim (is_text q y) as (λ c. true ≡ (c || true)) [ true ↦ refl | false ↦ refl ] | false ↦ refl ])
+    (elim (is_text q x) as (λ b. (b || (is_text q y || is_one_of q xs)) ≡ (is_text q y || (b || is_one_of q xs))) [ true ↦ elim (is_text q y) as (λ c. true ≡ (c || true)) [ true ↦ refl | false ↦ refl ] | false ↦ refl ])
 
 either : (b c : Bool) → cond b true c ≡ (b || c)
 either true c = refl

@@ -17,3 +17,6 @@ mod walk;
 
 pub use fault::PrepareFault;
 pub use prepare::{Prepared, prepare_module};
+
+#[cfg(test)]
+mod tests;

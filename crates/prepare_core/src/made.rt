@@ -40,7 +40,11 @@ pub(crate) fn string(value: Ident) -> Expression
 }
 
 #[tactic(auto, using(crate::proofs::Nodes::member_made))]
-pub(crate) fn member(alloc: Global, object: Expression, name: Ident) -> Result<Expression, AllocError>
+pub(crate) fn member(
+    alloc: Global,
+    object: Expression,
+    name: Ident,
+) -> Result<Expression, AllocError>
     ensures { IfOk result (λ it. expression_term it ≡ member_of (expression_term object) name) }
 {
     Ok(Expression::StaticMemberExpression(StaticMemberExpression {
@@ -67,8 +71,11 @@ pub(crate) fn call(
     }))
 }
 
-
-pub(crate) fn property(alloc: Global, key: &str, value: Expression) -> Result<ObjectProperty, AllocError>
+pub(crate) fn property(
+    alloc: Global,
+    key: &str,
+    value: Expression,
+) -> Result<ObjectProperty, AllocError>
     ensures { IfOk result (λ it. property_term expression_term it ≡ property_of key.now (expression_term value)) }
 {
     let name = Ident::new(alloc, key)?;

@@ -40,10 +40,7 @@ fn push_declarators(out: &mut Items<Ident>, items: &[VariableDeclarator]) -> Res
 }
 
 #[tactic(auto, using(crate::proofs::Declares::parameters_more))]
-fn push_parameters(
-    out: &mut Items<Ident>,
-    items: &[FormalParameter],
-) -> Result<(), AllocError>
+fn push_parameters(out: &mut Items<Ident>, items: &[FormalParameter]) -> Result<(), AllocError>
     ensures { OnOk result (out.new ≡ out.old ++ declared_all (all (map parameter_term items.now))) }
 {
     for one in items {

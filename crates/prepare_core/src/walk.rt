@@ -107,8 +107,13 @@ fn rewrite_expression(
         Expression::FunctionExpression(n) => {
             let n = n.get();
             let scope = function_scope(alloc, n)?;
-            let statements =
-                rewrite_body(alloc, imports, scopes, scope, n.body.statements.as_slice())?;
+            let statements = rewrite_body(
+                alloc,
+                imports,
+                scopes,
+                scope,
+                n.body.statements.as_slice(),
+            )?;
             let made = Boxed::new(alloc, with_statements(alloc, n, statements)?)?;
             Ok(Expression::FunctionExpression(made))
         }
@@ -118,12 +123,10 @@ fn rewrite_expression(
         })),
         Expression::ParenthesizedExpression(n) => {
             let expression = rewrite_boxed(alloc, imports, scopes, n.expression.get())?;
-            Ok(Expression::ParenthesizedExpression(
-                ParenthesizedExpression {
-                    span: n.span,
-                    expression,
-                },
-            ))
+            Ok(Expression::ParenthesizedExpression(ParenthesizedExpression {
+                span: n.span,
+                expression,
+            }))
         }
         Expression::SequenceExpression(n) => {
             Ok(Expression::SequenceExpression(SequenceExpression {
@@ -283,8 +286,13 @@ pub(crate) fn rewrite_declaration(
         Declaration::FunctionDeclaration(n) => {
             let n = n.get();
             let scope = function_scope(alloc, n)?;
-            let statements =
-                rewrite_body(alloc, imports, scopes, scope, n.body.statements.as_slice())?;
+            let statements = rewrite_body(
+                alloc,
+                imports,
+                scopes,
+                scope,
+                n.body.statements.as_slice(),
+            )?;
             let made = Boxed::new(alloc, with_statements(alloc, n, statements)?)?;
             Ok(Declaration::FunctionDeclaration(made))
         }
@@ -319,8 +327,12 @@ pub(crate) fn rewrite_statement(
             })),
         },
         Statement::VariableDeclaration(n) => {
-            let declarations =
-                rewrite_declarators(alloc, imports, scopes, n.declarations.as_slice())?;
+            let declarations = rewrite_declarators(
+                alloc,
+                imports,
+                scopes,
+                n.declarations.as_slice(),
+            )?;
             Ok(Statement::VariableDeclaration(VariableDeclaration {
                 span: n.span,
                 kind: n.kind,
@@ -330,8 +342,13 @@ pub(crate) fn rewrite_statement(
         Statement::FunctionDeclaration(n) => {
             let n = n.get();
             let scope = function_scope(alloc, n)?;
-            let statements =
-                rewrite_body(alloc, imports, scopes, scope, n.body.statements.as_slice())?;
+            let statements = rewrite_body(
+                alloc,
+                imports,
+                scopes,
+                scope,
+                n.body.statements.as_slice(),
+            )?;
             let made = Boxed::new(alloc, with_statements(alloc, n, statements)?)?;
             Ok(Statement::FunctionDeclaration(made))
         }

@@ -10,5 +10,5 @@ add_statement-requires c =
 pub loop-one-preserved : goal.loop-one-preserved
 loop-one-preserved c = record {
   names = statements_next c.args.body.now c.loop-one.imports.entries c.add_statement.new.imports.entries c.loop-one.one-index c.loop-one.request c.one-item.result c.one-item.result (omega arith) c.one-item.is c.loop-one.invariant.number c.loop-one.invariant.names c.in_ok-request.ensures.names;
-  number = number_next c.args.body.now c.loop-one.one-index c.loop-one.request c.in_ok-request.request c.one-item.result c.one-item.result (omega arith) c.one-item.is c.loop-one.invariant.number c.in_ok-request.ensures.next
+  number = number_next c.args.body.now c.loop-one.one-index c.loop-one.request c.in_ok-request.request c.one-item.result c.one-item.result (omega arith) c.one-item.is c.loop-one.invariant.number c.in_ok-request.ensures.next;
 }

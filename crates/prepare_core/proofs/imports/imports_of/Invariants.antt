@@ -9,5 +9,5 @@ use Rattle.prepare_core.proofs.imports.imports_of.Given as goal
 abbrev pub invariant-loop-one : goal.invariant-loop-one
 invariant-loop-one l = record {
   names : HasImports (all_brought 0 (all (map statement_term (take l.one-index l.body)))) l.imports.entries;
-  number : l.request ≡ length (requests (all (map statement_term (take l.one-index l.body))))
+  number : l.request ≡ length (requests (all (map statement_term (take l.one-index l.body))));
 }

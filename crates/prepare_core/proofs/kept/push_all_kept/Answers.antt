@@ -13,5 +13,5 @@ loop-one-preserved c =
     let h = rw c.loop-one.invariant.same at c.in_ok-push_kept.ensures.terms in
     record {
       same = c.in_ok-push_kept.ensures.scopes ∙ c.loop-one.invariant.same;
-      terms = kept_next (root_env c.args.imports.now) c.args.body.now c.loop-one.out c.push_kept.new.out (all (map statement_term c.args.out.now)) c.loop-one.one-index c.one-item.result c.one-item.result (omega arith) c.one-item.is c.loop-one.invariant.terms h
+      terms = kept_next (root_env c.args.imports.now) c.args.body.now c.loop-one.out c.push_kept.new.out (all (map statement_term c.args.out.now)) c.loop-one.one-index c.one-item.result c.one-item.result (omega arith) c.one-item.is c.loop-one.invariant.terms h;
     }

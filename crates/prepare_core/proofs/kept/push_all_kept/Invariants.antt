@@ -9,5 +9,5 @@ use Rattle.prepare_core.proofs.kept.push_all_kept.Given as goal
 abbrev pub invariant-loop-one : goal.invariant-loop-one
 invariant-loop-one l = record {
   same : l.scopes ≡ [];
-  terms : all (map statement_term l.out) ≡ append (all (map statement_term l.fn.out)) (carried_each (root_env l.imports) (all_kept (all (map statement_term (take l.one-index l.body)))))
+  terms : all (map statement_term l.out) ≡ append (all (map statement_term l.fn.out)) (carried_each (root_env l.imports) (all_kept (all (map statement_term (take l.one-index l.body)))));
 }

@@ -16,5 +16,5 @@ push_request-requires c =
 pub loop-one-preserved : goal.loop-one-preserved
 loop-one-preserved c = record {
   terms = requests_next c.args.body.now c.loop-one.out c.push_request.new.out (all (map statement_term c.args.out.now)) c.loop-one.one-index c.loop-one.number c.one-item.result c.one-item.result (omega arith) c.one-item.is c.loop-one.invariant.next c.loop-one.invariant.terms c.in_ok-number.ensures.terms;
-  next = number_next c.args.body.now c.loop-one.one-index c.loop-one.number c.in_ok-number.number c.one-item.result c.one-item.result (omega arith) c.one-item.is c.loop-one.invariant.next c.in_ok-number.ensures.next
+  next = number_next c.args.body.now c.loop-one.one-index c.loop-one.number c.in_ok-number.number c.one-item.result c.one-item.result (omega arith) c.one-item.is c.loop-one.invariant.next c.in_ok-number.ensures.next;
 }

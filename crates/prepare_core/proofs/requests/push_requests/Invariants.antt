@@ -8,5 +8,5 @@ use Rattle.prepare_core.proofs.requests.push_requests.Given as goal
 abbrev pub invariant-loop-one : goal.invariant-loop-one
 invariant-loop-one l = record {
   terms : all (map statement_term l.out) ≡ append (all (map statement_term l.fn.out)) (written_requests 0 (requests (all (map statement_term (take l.one-index l.body)))));
-  next : l.number ≡ length (requests (all (map statement_term (take l.one-index l.body))))
+  next : l.number ≡ length (requests (all (map statement_term (take l.one-index l.body))));
 }

@@ -15,7 +15,7 @@ pub rewrite_declaration-returns-in_ok-made-in-FunctionDeclaration-clause-term : 
 rewrite_declaration-returns-in_ok-made-in-FunctionDeclaration-clause-term t c =
     let q = rw c.as_slice-in-FunctionDeclaration.ensures at c.in_ok-statements-in-FunctionDeclaration.ensures.terms in
     let p : function_term c.in_ok-made-in-FunctionDeclaration.made ≡ carried (names_env c.args.imports.now c.args.scopes.now) (function_term c.get-n.result.now) =
-        ap function_term c.in_ok-made-in-FunctionDeclaration.ensures ∙ c.in_ok-with_statements-in-FunctionDeclaration.ensures ∙ function_inside (brought_in c.args.imports.now.entries ∷ []) c.args.scopes.now c.get-n.result.now c.in_ok-scope-in-FunctionDeclaration.scope c.in_ok-statements-in-FunctionDeclaration.statements c.in_ok-scope-in-FunctionDeclaration.ensures q in
+    ap function_term c.in_ok-made-in-FunctionDeclaration.ensures ∙ c.in_ok-with_statements-in-FunctionDeclaration.ensures ∙ function_inside (brought_in c.args.imports.now.entries ∷ []) c.args.scopes.now c.get-n.result.now c.in_ok-scope-in-FunctionDeclaration.scope c.in_ok-statements-in-FunctionDeclaration.statements c.in_ok-scope-in-FunctionDeclaration.ensures q in
     rw (c.in-FunctionDeclaration.is, ← c.get-n.ensures) (function_declared (names_env c.args.imports.now c.args.scopes.now) _ _ p)
 
 pub rewrite_expression-returns-in_ok-rewrite_each-in-ArrayExpression-clause-term : goal.rewrite_expression-returns-in_ok-rewrite_each-in-ArrayExpression-clause-term
@@ -38,7 +38,7 @@ pub rewrite_expression-returns-in_ok-made-in-FunctionExpression-clause-term : go
 rewrite_expression-returns-in_ok-made-in-FunctionExpression-clause-term t c =
     let q = rw c.as_slice-in-FunctionExpression.ensures at c.in_ok-statements-in-FunctionExpression.ensures.terms in
     let p : function_term c.in_ok-made-in-FunctionExpression.made ≡ carried (names_env c.args.imports.now c.args.scopes.now) (function_term c.get-n.result.now) =
-        ap function_term c.in_ok-made-in-FunctionExpression.ensures ∙ c.in_ok-with_statements-in-FunctionExpression.ensures ∙ function_inside (brought_in c.args.imports.now.entries ∷ []) c.args.scopes.now c.get-n.result.now c.in_ok-scope-in-FunctionExpression.scope c.in_ok-statements-in-FunctionExpression.statements c.in_ok-scope-in-FunctionExpression.ensures q in
+    ap function_term c.in_ok-made-in-FunctionExpression.ensures ∙ c.in_ok-with_statements-in-FunctionExpression.ensures ∙ function_inside (brought_in c.args.imports.now.entries ∷ []) c.args.scopes.now c.get-n.result.now c.in_ok-scope-in-FunctionExpression.scope c.in_ok-statements-in-FunctionExpression.statements c.in_ok-scope-in-FunctionExpression.ensures q in
     rw (c.in-FunctionExpression.is, ← c.get-n.ensures) (value_carried (names_env c.args.imports.now c.args.scopes.now) _ _ p)
 
 pub rewrite_expression-returns-in_ok-rewrite_properties-in-ObjectExpression-clause-term : goal.rewrite_expression-returns-in_ok-rewrite_properties-in-ObjectExpression-clause-term
@@ -80,7 +80,7 @@ pub rewrite_statement-returns-in_ok-made-in-FunctionDeclaration-clause-term : go
 rewrite_statement-returns-in_ok-made-in-FunctionDeclaration-clause-term t c =
     let q = rw c.as_slice-in-FunctionDeclaration.ensures at c.in_ok-statements-in-FunctionDeclaration.ensures.terms in
     let p : function_term c.in_ok-made-in-FunctionDeclaration.made ≡ carried (names_env c.args.imports.now c.args.scopes.now) (function_term c.get-n.result.now) =
-        ap function_term c.in_ok-made-in-FunctionDeclaration.ensures ∙ c.in_ok-with_statements-in-FunctionDeclaration.ensures ∙ function_inside (brought_in c.args.imports.now.entries ∷ []) c.args.scopes.now c.get-n.result.now c.in_ok-scope-in-FunctionDeclaration.scope c.in_ok-statements-in-FunctionDeclaration.statements c.in_ok-scope-in-FunctionDeclaration.ensures q in
+    ap function_term c.in_ok-made-in-FunctionDeclaration.ensures ∙ c.in_ok-with_statements-in-FunctionDeclaration.ensures ∙ function_inside (brought_in c.args.imports.now.entries ∷ []) c.args.scopes.now c.get-n.result.now c.in_ok-scope-in-FunctionDeclaration.scope c.in_ok-statements-in-FunctionDeclaration.statements c.in_ok-scope-in-FunctionDeclaration.ensures q in
     rw (c.in-FunctionDeclaration.is, ← c.get-n.ensures) (named_carried (names_env c.args.imports.now c.args.scopes.now) _ _ p)
 
 pub rewrite_statement-returns-in_ok-rewrite_declaration-in-ExportDeclaration-clause-term : goal.rewrite_statement-returns-in_ok-rewrite_declaration-in-ExportDeclaration-clause-term
