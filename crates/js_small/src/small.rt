@@ -80,8 +80,8 @@ fn are_items(items: &[Statement]) -> bool
     true
 }
 
-/// Whether the module is small. It takes no memory; its time grows with the square of the number of names in one
-/// scope.
+/// Whether the module is small. It takes no memory; its time grows with the square of the number of names and
+/// statements in one scope.
 #[tactic(auto, using(crate::proofs::Agree::module_small))]
 pub fn is_small(program: &Program) -> bool
     ensures { result ≡ form.is_small (tree.program_term program.now) }
