@@ -13,13 +13,13 @@ use Rattle.prepare_program.specs.Prepared.{IsPrepared}
 -- parentheses change nothing of what is read back
 pub prepared : (text written : Text) (p q : Term) (deps dynamic_deps : List Text) → Spells narrow text p → is_small p ≡ true → depth p ≤ 512 → read_back q ≡ Some (meaning p) → IsPrinted q written → AreDeps (sources_of (meaning p).requests) deps → dynamic_deps ≡ [] → IsPrepared text written deps dynamic_deps
 prepared text written p q deps dynamic_deps r small shallow m w d e = record {
-    module_read = p;
-    spelled = r;
-    small = small;
-    shallow = shallow;
-    module_written = w.module_written;
-    written_spelled = w.spelled;
-    means = ap read_stripped w.same ∙ m;
-    deps_are = d;
-    dynamic_deps_are = e
-  }
+  module_read = p;
+  spelled = r;
+  small = small;
+  shallow = shallow;
+  module_written = w.module_written;
+  written_spelled = w.spelled;
+  means = ap read_stripped w.same ∙ m;
+  deps_are = d;
+  dynamic_deps_are = e;
+}
