@@ -1,16 +1,16 @@
 -- What is spelled as an expression is read.
-use Rattle.std.proofs.Common.{◌≡◌, ◌≤◌, ◌<◌, ℕ, zero, suc, max, Bool, true, false, not, ◌&&◌, ◌||◌, List, [], ◌∷◌, ◌++◌, length, Option, Some, None, refl, sym, ◌∙◌, ap, codes, arith}
+use Rattle.std.proofs.Common.{◌≡◌, ◌≤◌, ◌<◌, ℕ, zero, suc, Bool, true, false, not, ◌&&◌, List, length, Option, Some, None, refl, ◌∙◌, arith}
 use Rattle.std.proofs.lemmas.Bool.{le-leb, and_parts}
-use Rattle.js_term.specs.Term.{Text, Kind, Term, Terms, node, all, depth, depths}
-use Rattle.js_term.specs.Lexeme.{narrow, Lexeme, word, number, string, sign, Token, left_paren, right_paren, comma, dot, is_reserved}
+use Rattle.js_term.specs.Term.{Text, Term, all, depth, depths}
+use Rattle.js_term.specs.Lexeme.{narrow, Lexeme, word, number, string, sign, Token, left_paren, right_paren, dot, is_reserved}
 use Rattle.js_term.specs.Node.{identifier_of, string_of, number_of, call_of, member_of}
 use Rattle.js_term.specs.Spells.{Stands, Listed, Group, joined}
 use Rattle.js_term.specs.Spells as spell
-use Rattle.js_lex.specs.Next.{lexeme, after, sees, same_lexeme}
-use Rattle.js_lex.proofs.Laws.{Found, token_found, sees_by, text_is}
-use Rattle.js_read.specs.Plain.{is_plain, are_plain, is_read_kind}
-use Rattle.js_read.specs.Read.{Reading, ◌>>=◌, expect, name, within, primary, goes_on, member, call, extended, climb, whole, read, separated, separated_until}
-use Rattle.js_read.proofs.Parts.{expect_read, sees_it, sees_other, name_read, no_sign, is_end, end_goes, ReadsPart, ReadsAll, ReadsUntil, last_all, and_all, until_none, until_some}
+use Rattle.js_lex.specs.Next.{lexeme}
+use Rattle.js_lex.proofs.Laws.{token_found}
+use Rattle.js_read.specs.Plain.{is_plain, are_plain}
+use Rattle.js_read.specs.Read.{primary, goes_on, member, call, extended, climb, whole, read}
+use Rattle.js_read.proofs.Parts.{expect_read, sees_it, sees_other, name_read, no_sign, end_goes, ReadsPart, ReadsAll, ReadsUntil, last_all, and_all, until_none, until_some}
 
 -- what begins an expression
 abbrev pub begins : Option Lexeme → Bool

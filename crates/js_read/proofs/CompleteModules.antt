@@ -1,22 +1,22 @@
 -- What is spelled as a module is read.
-use Rattle.std.proofs.Common.{◌≡◌, ◌≤◌, ◌<◌, ℕ, zero, suc, ◌+◌, max, Bool, true, false, not, ◌&&◌, ◌||◌, nat_le, List, [], ◌∷◌, ◌++◌, length, Option, Some, None, refl, sym, subst, ◌∙◌, ap, append_assoc, codes, arith}
+use Rattle.std.proofs.Common.{◌≡◌, ◌≤◌, ◌<◌, ℕ, zero, suc, ◌+◌, Bool, true, false, not, List, [], ◌∷◌, ◌++◌, length, Option, Some, None, refl, sym, ◌∙◌, ap, append_assoc, codes, arith}
 use Rattle.std.proofs.lemmas.Bool.{le-leb, and_parts}
 use Rattle.std.proofs.lemmas.List.{append-nil}
 use Rattle.std.specs.List.{list_all}
-use Rattle.js_term.specs.Term.{Text, Kind, Term, Terms, node, all, depth, depths}
-use Rattle.js_term.specs.Lexeme.{narrow, Lexeme, word, number, string, sign, Token, AtEnd, left_brace, right_brace, left_paren, right_paren, comma, semicolon, equals, is_blank, is_reserved, same_line}
-use Rattle.js_term.specs.Node.{named, parameters_of, function_of, const_of, return_of, statement_of, specifier_of, import_declaration_of, export_declaration_of, program_of}
+use Rattle.js_term.specs.Term.{Text, Term, all, depth, depths}
+use Rattle.js_term.specs.Lexeme.{narrow, Lexeme, word, number, string, sign, Token, AtEnd, left_brace, right_brace, left_paren, right_paren, semicolon, equals, is_blank, is_reserved, same_line}
+use Rattle.js_term.specs.Node.{named, parameters_of, function_of, const_of, return_of, statement_of, specifier_of, import_declaration_of, export_declaration_of}
 use Rattle.js_term.specs.Spells.{Stands, Listed, joined, is_string_literal, Spells}
 use Rattle.js_term.specs.Spells as spell
-use Rattle.js_lex.specs.Next.{lexeme, after, sees, same_lexeme}
-use Rattle.js_lex.proofs.Laws.{Found, token_found, sees_by, text_is, at_end_lexeme}
+use Rattle.js_lex.specs.Next.{lexeme, sees, same_lexeme}
+use Rattle.js_lex.proofs.Laws.{token_found, sees_by, text_is, at_end_lexeme}
 use Rattle.js_term.specs.Form.{is_small}
 use Rattle.js_read.specs.declared.fault.ReadFault.{ReadFault}
 use Rattle.js_read.specs.declared.fault.ReadFault.TheVariants as fault
 use Rattle.js_read.specs.Gives.{FailsWhole, Refuses}
 use Rattle.js_read.specs.Plain.{is_plain, are_plain}
 use Rattle.js_read.proofs.Plain.{small_plain}
-use Rattle.js_read.specs.Read.{Reading, ◌>>=◌, expect, name, binding, source, closed, read, parameters, fits, statements, body, function, constant, declares, declaration, returned, effect, either, statement, renamed, unrenamed, specifier, specifiers, imported, exported, item, items, program_by, read_of, separated, separated_until}
+use Rattle.js_read.specs.Read.{binding, source, parameters, fits, statements, body, function, constant, declares, declaration, returned, effect, either, statement, renamed, unrenamed, specifier, specifiers, imported, exported, item, items, read_of}
 use Rattle.js_read.proofs.Parts.{expect_read, sees_it, sees_other, name_read, binding_read, source_read, no_sign, no_sign_sees, is_end, end_sees, end_goes, ReadsPart, ReadsAll, ReadsUntil, last_all, and_all, until_none, until_some}
 use Rattle.js_read.proofs.Complete.{IsRead, begins, begins_no_sign, part, stands_read}
 

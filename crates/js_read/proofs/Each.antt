@@ -1,5 +1,5 @@
 -- What each answer of a reading meets.
-use Rattle.std.proofs.Common.{◌≡◌, ℕ, zero, suc, Bool, true, false, if◌then◌else◌, List, [], ◌∷◌, ◌++◌, length, Option, Some, None, refl, subst, ◌∙◌, append_assoc}
+use Rattle.std.proofs.Common.{◌≡◌, ℕ, zero, suc, Bool, true, false, if◌then◌else◌, List, [], ◌∷◌, ◌++◌, length, Some, None, refl, subst, ◌∙◌, append_assoc}
 use Rattle.js_term.specs.Term.{Text}
 use Rattle.js_term.specs.Lexeme.{narrow, Lexeme, Token, comma}
 use Rattle.js_lex.specs.Next.{sees, after}

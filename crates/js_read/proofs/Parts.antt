@@ -1,11 +1,11 @@
 -- Tokens and lists that stand in a text are read.
-use Rattle.std.proofs.Common.{◌≡◌, ◌≤◌, ◌<◌, ℕ, zero, suc, Bool, true, false, not, ◌||◌, nat_eq, List, [], ◌∷◌, ◌++◌, length, Option, Some, None, refl, sym, ◌∙◌, ap, append_assoc, codes, arith}
+use Rattle.std.proofs.Common.{◌≡◌, ◌≤◌, ◌<◌, ℕ, zero, suc, Bool, true, false, ◌||◌, nat_eq, List, [], ◌∷◌, ◌++◌, length, Option, Some, None, refl, ◌∙◌, ap, append_assoc, arith}
 use Rattle.std.proofs.lemmas.Bool.Decides.{nat_tests}
-use Rattle.js_term.specs.Term.{Text, is_text}
-use Rattle.js_term.specs.Lexeme.{narrow, Lexeme, word, number, string, sign, Token, left_paren, right_paren, comma, dot, is_reserved}
+use Rattle.js_term.specs.Term.{Text}
+use Rattle.js_term.specs.Lexeme.{narrow, Lexeme, word, number, string, sign, Token, left_paren, comma, dot, is_reserved}
 use Rattle.js_lex.specs.Next.{lexeme, after, sees, same_lexeme}
-use Rattle.js_lex.proofs.Laws.{Found, token_found, sees_by, text_is, is_text_same}
-use Rattle.js_read.specs.Read.{Reading, ◌>>=◌, expect, name, binding, unreserved, source, separated, separated_until, goes_on}
+use Rattle.js_lex.proofs.Laws.{token_found, sees_by}
+use Rattle.js_read.specs.Read.{Reading, expect, name, binding, source, separated, separated_until, goes_on}
 
 pub expect_read : {l : Lexeme} {a b : Text} → Token narrow a l b → same_lexeme l l ≡ true → expect l a ≡ Some (tt, b)
 unfolding expect

@@ -1,15 +1,14 @@
 -- What is read of an expression is spelled.
-use Rattle.std.proofs.Common.{◌≡◌, ◌≤◌, ◌<◌, ℕ, zero, suc, ◌+◌, max, Bool, true, false, cond, ◌||◌, if◌then◌else◌, nat_le, nat_eq, List, [], ◌∷◌, ◌++◌, length, Option, Some, None, refl, sym, subst, ◌∙◌, ap, arith}
+use Rattle.std.proofs.Common.{◌≡◌, ◌≤◌, ◌<◌, ℕ, zero, suc, Bool, true, false, cond, ◌||◌, nat_le, nat_eq, List, length, Option, Some, None, refl, arith}
 use Rattle.std.proofs.lemmas.Bool.{leb-true}
-use Rattle.js_term.specs.Term.{Text, Kind, Term, Terms, node, absent, list, none, more, all, depth, depths}
-use Rattle.js_term.specs.Lexeme.{narrow, Lexeme, word, number, string, sign, Token, left_paren, right_paren, dot, comma, is_reserved, opens_otherwise}
-use Rattle.js_term.specs.Node.{identifier_of, string_of, number_of, call_of, member_of}
+use Rattle.js_term.specs.Term.{Text, Term, node, absent, list, all, depth, depths}
+use Rattle.js_term.specs.Lexeme.{narrow, Lexeme, word, number, string, sign, Token, left_paren, right_paren, dot, is_reserved, opens_otherwise}
 use Rattle.js_term.specs.Spells.{level, Stands, Listed, Group}
 use Rattle.js_term.specs.Spells as spell
 use Rattle.js_lex.specs.Next.{lexeme, after, sees}
 use Rattle.js_lex.proofs.Laws.{token_there, seen}
-use Rattle.js_read.specs.Read.{Reading, ◌>>=◌, expect, name, name_by, within, primary, primary_by, goes_on, member, call, extended, climb, whole, read}
-use Rattle.js_read.proofs.Each.{Each, each_none, each_some, each_bind, each_weaker, each_if, expect_each, Chain, Chains, one, next, nothing, some, until_each}
+use Rattle.js_read.specs.Read.{name, name_by, primary, primary_by, goes_on, member, call, extended, climb, whole, read}
+use Rattle.js_read.proofs.Each.{Each, each_none, each_some, each_bind, each_if, expect_each, Chain, Chains, one, next, nothing, some, until_each}
 use Rattle.js_read.proofs.Opens.{opens_word, opens_number, opens_string}
 
 -- a word

@@ -1,18 +1,18 @@
 -- What is read of a module is spelled.
-use Rattle.std.proofs.Common.{◌≡◌, ◌≤◌, ◌<◌, ℕ, zero, suc, ◌+◌, max, Bool, true, false, ◌||◌, if◌then◌else◌, nat_le, List, [], ◌∷◌, ◌++◌, length, Option, Some, None, refl, sym, subst, ◌∙◌, ap, append_assoc, codes, arith}
+use Rattle.std.proofs.Common.{◌≡◌, ◌≤◌, ℕ, zero, suc, ◌+◌, Bool, true, false, ◌||◌, List, [], ◌∷◌, ◌++◌, length, Option, Some, None, refl, sym, ◌∙◌, append_assoc, codes, arith}
 use Rattle.std.proofs.lemmas.Bool.{leb-true}
 use Rattle.std.proofs.lemmas.List.{append-nil}
 use Rattle.std.specs.List.{list_all}
-use Rattle.js_term.specs.Term.{Text, Term, Terms, all, depth, depths}
-use Rattle.js_term.specs.Lexeme.{narrow, Lexeme, word, number, string, sign, Token, AtEnd, left_brace, right_brace, left_paren, right_paren, comma, semicolon, equals, is_blank, is_reserved, same_line}
-use Rattle.js_term.specs.Node.{named, parameters_of, function_of, const_of, return_of, statement_of, specifier_of, import_declaration_of, export_declaration_of, program_of}
+use Rattle.js_term.specs.Term.{Text, Term, all, depth, depths}
+use Rattle.js_term.specs.Lexeme.{narrow, Lexeme, word, number, string, sign, Token, AtEnd, left_brace, right_brace, left_paren, right_paren, semicolon, equals, is_blank, is_reserved, same_line}
+use Rattle.js_term.specs.Node.{named, parameters_of, program_of}
 use Rattle.js_term.specs.Spells.{is_string_literal, Spells}
 use Rattle.js_term.specs.Spells as spell
 use Rattle.js_lex.specs.Next.{lexeme, after, sees}
 use Rattle.js_lex.proofs.Laws.{token_there, seen}
-use Rattle.js_read.specs.Read.{Reading, ◌>>=◌, expect, name, binding, unreserved, source, source_by, closed, read, parameters, fits, statements, body, function, constant, declares, declaration, returned, effect, either, statement, renamed, unrenamed, specifier, specifiers, imported, exported, item, items, program_by, read_of}
+use Rattle.js_read.specs.Read.{Reading, binding, source, source_by, parameters, fits, statements, body, function, constant, declares, declaration, returned, effect, either, statement, renamed, unrenamed, specifier, specifiers, imported, exported, item, items, program_by, read_of}
 use Rattle.js_read.proofs.Each.{Each, each_none, each_some, each_bind, each_weaker, each_if, expect_each, Chain, Chains, one, next, nothing, some, until_each}
-use Rattle.js_read.proofs.Sound.{Fits, read_each, name_each, high_deep}
+use Rattle.js_read.proofs.Sound.{read_each, name_each, high_deep}
 
 -- a name that is not reserved
 pub record IsBinding (x a b : Text) : Type 0 where

@@ -1,6 +1,6 @@
 -- The terms of the nodes that the reader makes.
-use Rattle.std.proofs.Common.{◌≡◌, ◌≢◌, ℕ, nat_le, Bool, true, false, List, [], ◌∷◌, ◌++◌, Option, None, Some, map, refl, ap, ◌∙◌, codes}
-use Rattle.js_term.specs.Term.{Text, Term, all, flag, two, list, node, Kind}
+use Rattle.std.proofs.Common.{◌≡◌, ◌≢◌, ℕ, nat_le, false, List, [], ◌∷◌, ◌++◌, Some, map, refl, ◌∙◌}
+use Rattle.js_term.specs.Term.{Text, Term, all, two, node, Kind}
 use Rattle.js_term.specs.Node.{call_of, member_of, const_of, binding_of, named, function_of, return_of, statement_of, import_declaration_of}
 use Rattle.js_tree.specs.TermOf.{expression_term, declaration_term, statement_term, declarator_term, parameter_term, specifier_term}
 use Rattle.js_tree.proofs.Levels.{e_CallExpression, e_StaticMemberExpression, d_VariableDeclaration, d_FunctionDeclaration, s_ReturnStatement, s_ExpressionStatement, s_ImportDeclaration, declarator_parts, function_parts}
@@ -19,9 +19,7 @@ use Rattle.js_tree.specs.declared.statement.VariableDeclaration.{VariableDeclara
 use Rattle.js_tree.specs.declared.statement.VariableDeclarationKind.TheVariants as kind
 use Rattle.js_tree.specs.declared.statement.ReturnStatement.{ReturnStatement}
 use Rattle.js_tree.specs.declared.statement.ExpressionStatement.{ExpressionStatement}
-use Rattle.js_tree.specs.declared.statement.Statement.{Statement}
 use Rattle.js_tree.specs.declared.statement.Statement.TheVariants as statement
-use Rattle.js_tree.specs.declared.module.Declaration.{Declaration}
 use Rattle.js_tree.specs.declared.module.Declaration.TheVariants as declaration
 use Rattle.js_tree.specs.declared.module.ImportDeclaration.{ImportDeclaration}
 use Rattle.js_tree.specs.declared.module.ImportSpecifier.{ImportSpecifier}

@@ -1,5 +1,5 @@
 -- A function value that reads expressions, or statements, to a depth.
-use Rattle.std.specs.Prelude.{◌≡◌, ◌≤◌, ◌<◌, ◌^◌, ℕ, ◌+◌, List, Result, IfOk, map}
+use Rattle.std.specs.Prelude.{◌≤◌, ◌<◌, ◌^◌, ℕ, ◌+◌, List, Result, IfOk, map}
 use Rattle.std.specs.declared.alloc.Global.{Global}
 use denote.Ref.{MutBor}
 use Rattle.js_term.specs.Term.{Text, Term}

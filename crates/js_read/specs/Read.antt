@@ -1,6 +1,6 @@
 -- Reading as a function: what a text has at its front, and the rest. A number that is given to it is the depth that
 -- is still allowed, so that it finds exactly the trees that are no deeper.
-use Rattle.std.specs.Prelude.{ℕ, zero, suc, ◌+◌, List, [], ◌∷◌, ◌++◌, length, Option, None, Some, Bool, true, false, ◌||◌, if◌then◌else◌, nat_le, codes}
+use Rattle.std.specs.Prelude.{ℕ, zero, suc, ◌+◌, List, [], ◌∷◌, ◌++◌, length, Option, None, Some, Bool, true, ◌||◌, if◌then◌else◌, nat_le, codes}
 use Rattle.std.specs.List.{list_all}
 use Rattle.js_term.specs.Term.{Text, Term, all, depth}
 use Rattle.js_term.specs.Lexeme.{Lexeme, word, number, string, left_brace, right_brace, left_paren, right_paren, comma, semicolon, dot, equals, is_blank, is_reserved, same_line}

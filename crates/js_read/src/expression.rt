@@ -54,6 +54,7 @@ fn member(alloc: Global, tokens: &mut Tokens<'_>, start: u32, object: Found) -> 
     Ok(found::member(alloc, span, object, property)?)
 }
 
+/// What reads the parts of an expression, and what holds such parts.
 #[derive(Clone, Copy)]
 struct Grammar<F> {
     alloc: Global,

@@ -4,7 +4,8 @@ use thiserror::Error;
 /// Why a text was not read.
 #[derive(Debug, Drop, Error)]
 pub enum ReadFault {
-    /// The text is no small module; `at` is about where it stops to be one, in bytes.
+    /// The text spells no small module of a depth of at most 512; `at` is about where it goes wrong, in bytes, and 0
+    /// where its form is right and the module is not small.
     #[error("no small module is read at byte {at}")]
     Unread { at: usize },
     #[error("out of memory")]

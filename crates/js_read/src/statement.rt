@@ -61,6 +61,7 @@ pub(crate) fn declares(tokens: &Tokens<'_>) -> bool
     tokens.sees_word("const") || tokens.sees_word("function")
 }
 
+/// What reads the statements of a body, and what holds such a body.
 #[derive(Clone, Copy)]
 pub(crate) struct Bodies<F> {
     pub(crate) alloc: Global,
@@ -147,6 +148,7 @@ impl<F: Fn(Global, &mut Tokens<'_>, u16) -> Result<Statement, Halt>> Bodies<F> {
         Ok(nodes::constant(self.alloc, span, inner, id, init.tree)?)
     }
 
+    /// The declaration, where one begins.
     #[tactic(auto, unfolding(crate::specs::Read::declaration))]
     pub(crate) fn declaration(&self, tokens: &mut Tokens<'_>) -> Result<Declaration, Halt>
         requires { Holds self.now.depth (F.pre self.now.part) (F.post self.now.part) }
@@ -177,6 +179,7 @@ impl<F: Fn(Global, &mut Tokens<'_>, u16) -> Result<Statement, Halt>> Bodies<F> {
         Ok(nodes::returned(self.alloc, span, argument.tree)?)
     }
 
+    /// An expression as a statement, which begins at `start`.
     #[tactic(auto, unfolding(crate::specs::Read::effect))]
     fn effect(&self, tokens: &mut Tokens<'_>, start: u32) -> Result<Statement, Halt>
         requires { self.now.depth + 1 < 2 ^ 16 }
@@ -191,6 +194,7 @@ impl<F: Fn(Global, &mut Tokens<'_>, u16) -> Result<Statement, Halt>> Bodies<F> {
         Ok(nodes::effect(self.alloc, span, found.tree)?)
     }
 
+    /// A statement, of at most two levels more than those of a body.
     #[tactic(auto, unfolding(crate::specs::Read::either))]
     fn either(&self, tokens: &mut Tokens<'_>) -> Result<Statement, Halt>
         requires { Holds self.now.depth (F.pre self.now.part) (F.post self.now.part) }

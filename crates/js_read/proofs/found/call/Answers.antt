@@ -1,6 +1,5 @@
-use Rattle.std.proofs.Common.{◌≡◌, false, refl, ap, arith}
+use Rattle.std.proofs.Common.{false, refl, ap, arith}
 use Rattle.js_term.specs.Term.{depth}
-use Rattle.js_tree.specs.TermOf.{expression_term}
 use Rattle.js_tree.specs.declared.expression.CallExpression.{CallExpression}
 use Rattle.js_tree.specs.declared.expression.Expression.{Expression}
 use Rattle.js_read.proofs.Trees.{call_seen}

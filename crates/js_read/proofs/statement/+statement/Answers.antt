@@ -1,4 +1,4 @@
-use Rattle.std.proofs.Common.{◌≡◌, ap, arith}
+use Rattle.std.proofs.Common.{arith}
 use Rattle.js_read.specs.Read.{statement}
 use Rattle.js_read.proofs.Turns.{two_deeper}
 use Rattle.js_read.proofs.statement.+statement.Goals as goal
