@@ -4,3 +4,4 @@ pub mod Lexeme
 pub mod Node
 pub mod Spells
 pub mod Form
+pub mod Examples

@@ -1,7 +1,12 @@
 //! The model of a syntax tree: terms, their scopes, their spelling, and which of them are printable and small.
 //!
-//! The definitions stand in `specs/`; the functions here are laws over them.
+//! The definitions stand in `specs/`; the function here is a law over them and does nothing.
 #![tactic(auto)]
 
-/// Nothing is to be done: the definitions are the crate.
-pub fn nothing() {}
+ghost use Rattle.js_term.specs.Examples.{Examples};
+
+/// At small modules the definitions say what their pages say.
+#[tactic(auto, using(crate::proofs::Derived::examples))]
+pub fn worked_examples()
+    ensures { Examples }
+{}
