@@ -1,8 +1,8 @@
 -- The terms of the nodes that the runner makes.
-use Rattle.std.proofs.Common.{◌≡◌, refl, sym, ◌∙◌, ap, List, [], ◌∷◌, Option, None, Some, Bool, true, false, map, codes, ℕ, ◌++◌, ◌<◌, ◌+◌, take, length, get_or, add-one}
+use Rattle.std.proofs.Common.{◌≡◌, refl, ◌∙◌, ap, List, [], ◌∷◌, Option, None, Some, false, map, ℕ, ◌++◌, ◌<◌, ◌+◌, take, length, get_or, add-one}
 use Rattle.std.proofs.Math.Seq.{take-suc}
 use Rattle.js_term.specs.Term.{Text, Term, more, append, all, one, maybe}
-use Rattle.js_term.specs.Node.{identifier_of, string_of, member_of, call_of, property_of, boolean_of, object_of, array_of, await_of, method_of, return_of, const_of, statement_of, parenthesized_of, sequence_of, number_of}
+use Rattle.js_term.specs.Node.{identifier_of, string_of, member_of, call_of, boolean_of, object_of, array_of, await_of, method_of, return_of, const_of, statement_of, parenthesized_of, sequence_of, number_of}
 use Rattle.js_tree.specs.TermOf.{expression_term, property_term, function_term, statement_term, declarator_term}
 use Rattle.js_tree.specs.declared.id.Span.{Span}
 use Rattle.js_tree.specs.declared.id.IdentifierReference.{IdentifierReference}
@@ -16,12 +16,9 @@ use Rattle.js_tree.specs.declared.expression.ObjectProperty.{ObjectProperty}
 use Rattle.js_tree.specs.declared.expression.Expression.{Expression}
 use Rattle.js_tree.specs.declared.expression.Expression.TheVariants as expression
 use Rattle.js_tree.specs.declared.id.BindingIdentifier.{BindingIdentifier}
-use Rattle.js_tree.specs.declared.expression.AwaitExpression.{AwaitExpression}
 use Rattle.js_tree.specs.declared.function.BindingPattern.TheVariants as binding_pattern
 use Rattle.js_tree.specs.declared.function.FunctionKind.TheVariants as function_kind
 use Rattle.js_tree.specs.declared.function.Function.{Function}
-use Rattle.js_tree.specs.declared.statement.ExpressionStatement.{ExpressionStatement}
-use Rattle.js_tree.specs.declared.statement.ReturnStatement.{ReturnStatement}
 use Rattle.js_tree.specs.declared.statement.VariableDeclaration.{VariableDeclaration}
 use Rattle.js_tree.specs.declared.statement.VariableDeclarationKind.TheVariants as variable_kind
 use Rattle.js_tree.specs.declared.statement.Statement.{Statement}
@@ -30,7 +27,7 @@ use Rattle.js_tree.specs.declared.statement.VariableDeclarator.{VariableDeclarat
 use Rattle.prepare_core.specs.Carried.{function_with, declarator_with, call_with, member_with}
 use Rattle.std.specs.Prelude.{option_map}
 use Rattle.js_tree.proofs.Levels.{e_ParenthesizedExpression, e_ArrayExpression, e_AwaitExpression, e_FunctionExpression, s_ReturnStatement, s_ExpressionStatement, s_VariableDeclaration, function_parts, declarator_parts, e_BooleanLiteral, e_NumericLiteral, e_StringLiteral, e_Identifier, e_CallExpression, e_ObjectExpression, e_SequenceExpression, e_StaticMemberExpression}
-use Rattle.module_model.specs.Shape.{detached, strings}
+use Rattle.module_model.specs.Shape.{strings}
 
 pub identifier_made : (n : IdentifierReference) → expression_term (expression.Identifier n) ≡ identifier_of n.name
 identifier_made n = e_Identifier n

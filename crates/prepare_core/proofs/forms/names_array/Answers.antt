@@ -1,4 +1,4 @@
-use Rattle.std.proofs.Common.{◌≡◌, ◌≤◌, ◌∙◌, ap, map, length, arith}
+use Rattle.std.proofs.Common.{◌≤◌, ◌∙◌, ap, length, arith}
 use Rattle.std.proofs.lemmas.List.{take_all}
 use Rattle.js_term.specs.Node.{array_of}
 use Rattle.prepare_core.proofs.forms.names_array.Goals as goal
