@@ -1,11 +1,11 @@
 -- What statements ask for, hand out and keep, one more statement at a time.
-use Rattle.std.proofs.Common.{◌≡◌, refl, sym, ◌∙◌, ap, ℕ, suc, List, [], ◌∷◌, ◌++◌, Option, None, Some, Bool, true, false, map, take, length, get_or, ◌<◌, ◌+◌, add-one, append_assoc, subst, arith}
+use Rattle.std.proofs.Common.{◌≡◌, refl, sym, ◌∙◌, ap, ℕ, suc, List, [], ◌∷◌, ◌++◌, Option, false, map, take, length, get_or, ◌<◌, ◌+◌, add-one, append_assoc, arith}
 use Rattle.std.proofs.Math.Seq.{take-suc}
-use Rattle.std.proofs.lemmas.List.{map-append, append-nil, length-append}
-use Rattle.js_term.specs.Term.{Text, Kind, Term, absent, list, node, Terms, none, more, one, append, all, text_of, maybe}
+use Rattle.std.proofs.lemmas.List.{map-append, append-nil}
+use Rattle.js_term.specs.Term.{Text, Term, absent, list, node, Terms, none, more, one, append, all, text_of, maybe}
 use Rattle.std.specs.Prelude.{option_map}
-use Rattle.js_term.specs.Scope.{Role, role, Env, declared, is_request}
-use Rattle.js_tree.specs.TermOf.{specifier_term, specifiers_term, export_name_term, statement_term, declaration_term, import_term, export_term}
+use Rattle.js_term.specs.Scope.{Role, role, Env, is_request}
+use Rattle.js_tree.specs.TermOf.{specifier_term, specifiers_term, export_name_term, statement_term, declaration_term}
 use Rattle.js_tree.specs.declared.module.Declaration.{Declaration}
 use Rattle.js_tree.specs.declared.module.ExportDeclaration.{ExportDeclaration}
 use Rattle.js_tree.specs.declared.module.ImportDeclaration.{ImportDeclaration}
@@ -13,10 +13,10 @@ use Rattle.js_tree.specs.declared.module.ImportSpecifier.{ImportSpecifier}
 use Rattle.js_tree.specs.declared.statement.Statement.{Statement}
 use Rattle.js_tree.specs.declared.statement.Statement.TheVariants as statement
 use Rattle.js_tree.proofs.Levels.{s_ImportDeclaration, s_ExportDeclaration}
-use Rattle.module_model.specs.Meaning.{Request, asked, requests, imported_by, imported_names, sources_of, hands_out, handed_out, all_handed_out, keeps, kept, all_kept}
+use Rattle.module_model.specs.Meaning.{Request, asked, requests, imported_by, imported_names, sources_of, handed_out, all_handed_out, keeps, kept, all_kept}
 use Rattle.module_model.specs.Run.{written, getters, written_requests}
 use Rattle.module_model.specs.Shape.{request, getter}
-use Rattle.prepare_core.specs.Carried.{carried, carried_kids, carried_each}
+use Rattle.prepare_core.specs.Carried.{carried, carried_each}
 use Rattle.prepare_core.specs.Names.{is_import, is_export, is_export_role}
 use Rattle.prepare_core.proofs.Brought.{requests_append, asks_nothing}
 use Rattle.prepare_core.proofs.Look.{differ}
@@ -80,18 +80,6 @@ sources_next xs out new i d x l e p q =
     q ∙ rw (p, e, add-one, take-suc xs i d l, map-append statement_term (take i xs) (get_or xs i d ∷ []), requests_append (map statement_term (take i xs)) (statement_term (get_or xs i d)), sources_append (requests (all (map statement_term (take i xs)))) (asked (statement_term (get_or xs i d)))) refl
 
 -- exports
-
-pub hands_nothing : (t : Term) → is_export t ≡ false → handed_out t ≡ []
-hands_nothing absent h = refl
-hands_nothing (list ts) h = refl
-hands_nothing (node k texts ts) h = by (role k) h
-  where
-    by : (r : Role) → is_export_role r ≡ false → hands_out r ts ≡ []
-    by Role.exports_declaration h = differ h
-    by r h = refl
-
-pub hands_declared : (n : ExportDeclaration Declaration) → handed_out (statement_term (statement.ExportDeclaration n)) ≡ declared (declaration_term n.declaration)
-hands_declared n = ap handed_out (s_ExportDeclaration n) ∙ append-nil (declared (declaration_term n.declaration))
 
 handed_append : (ts : List Term) (t : Term) → all_handed_out (all (ts ++ t ∷ [])) ≡ all_handed_out (all ts) ++ handed_out t
 handed_append [] t = append-nil (handed_out t)

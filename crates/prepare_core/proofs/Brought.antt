@@ -1,19 +1,19 @@
 -- What imports bring in, as a map.
-use Rattle.std.proofs.Common.{◌≡◌, refl, sym, ◌∙◌, ap, ℕ, zero, suc, List, [], ◌∷◌, ◌++◌, Option, None, Some, Bool, true, false, cond, map, take, length, get_or, ◌<◌, ◌+◌, ◌≤◌, add-one, append_assoc, subst, arith}
+use Rattle.std.proofs.Common.{◌≡◌, refl, sym, ◌∙◌, ap, ℕ, suc, List, [], ◌∷◌, ◌++◌, Option, None, Some, Bool, true, false, cond, map, take, length, get_or, ◌<◌, ◌+◌, ◌≤◌, add-one, append_assoc, subst, arith}
 use Rattle.std.proofs.Math.Seq.{take-suc}
 use Rattle.std.proofs.lemmas.List.{map-append, append-nil, length-append}
 use Rattle.std.specs.Prelude.{option_map, is_some}
-use Rattle.std.specs.Cmp.Lexicographic.{nat_list_eq_equiv, bytes_decides}
+use Rattle.std.specs.Cmp.Lexicographic.{bytes_decides}
 use Rattle.std.specs.Map.{lookup}
-use Rattle.js_term.specs.Term.{Text, Kind, Term, absent, list, node, Terms, none, more, one, append, all, is_text}
-use Rattle.js_term.specs.Scope.{Role, role, Scope, Entry, imported, entry_of, brought, brings, bound_by, past, all_brought, is_request}
+use Rattle.js_term.specs.Term.{Text, Term, absent, list, node, all, is_text}
+use Rattle.js_term.specs.Scope.{Role, role, Scope, Entry, imported, entry_of, brought, bound_by, past, all_brought, is_request}
 use Rattle.js_tree.specs.TermOf.{specifier_term, statement_term}
 use Rattle.js_tree.specs.declared.module.ImportSpecifier.{ImportSpecifier}
 use Rattle.js_tree.specs.declared.statement.Statement.{Statement}
-use Rattle.module_model.specs.Meaning.{Request, asked, asks, requests}
-use Rattle.prepare_core.specs.Names.{HasImports, brought_in, plays, is_import}
+use Rattle.module_model.specs.Meaning.{asked, asks, requests}
+use Rattle.prepare_core.specs.Names.{HasImports, brought_in, is_import}
 use Rattle.prepare_core.specs.declared.scopes.Import.{Import}
-use Rattle.prepare_core.proofs.Look.{entry_for, entry_lookup, flips, differ}
+use Rattle.prepare_core.proofs.Look.{entry_for, entry_lookup, differ}
 
 abbrev pub or_else : {A : Type 0} → Option A → Option A → Option A
 or_else None b = b
@@ -89,15 +89,6 @@ asks_nothing (list ts) h = refl
 asks_nothing (node k texts ts) h = by (role k) h
   where
     by : (r : Role) → is_request r ≡ false → asks r ts ≡ []
-    by Role.imports h = differ h
-    by r h = refl
-
-pub brings_nothing : (j : ℕ) (t : Term) → is_import t ≡ false → brought j t ≡ []
-brings_nothing j absent h = refl
-brings_nothing j (list ts) h = refl
-brings_nothing j (node k texts ts) h = by (role k) h
-  where
-    by : (r : Role) → is_request r ≡ false → brings j r ts ≡ []
     by Role.imports h = differ h
     by r h = refl
 

@@ -2,12 +2,10 @@
 use Rattle.std.proofs.Common.{◌≡◌, refl, sym, ◌∙◌, ap, ℕ, zero, suc, List, [], ◌∷◌, ◌++◌, Option, None, Some, Bool, true, false, ◌||◌, cond, map, codes, length}
 use Rattle.std.specs.Prelude.{option_map}
 use Rattle.std.specs.HashSet.{HashSet}
-use Rattle.std.specs.List.{list_any}
-use Rattle.js_term.specs.Term.{Text, Term, Terms, Kind, absent, list, node, none, more, one, two, all, maybe, flag, is_text, first}
+use Rattle.js_term.specs.Term.{Text, Term, Terms, Kind, absent, list, node, none, more, two, all, maybe, flag, is_text, first}
 use Rattle.js_term.specs.Lexeme.{is_one_of}
-use Rattle.js_term.specs.Node.{identifier_of}
-use Rattle.js_term.specs.Scope.{Role, role, Env, Scope, Entry, here, arguments_object, imported, plainly, call_scope, entry_of, found, resolve, import_of, inner, function_env, body_names, parameter_names}
-use Rattle.js_tree.specs.TermOf.{binding_term, pattern_term, parameter_term, parameters_term, directive_term, statement_term, function_term, function_word, body_term}
+use Rattle.js_term.specs.Scope.{Role, role, Env, Scope, Entry, here, arguments_object, imported, plainly, call_scope, entry_of, found, resolve, inner, function_env, body_names, parameter_names}
+use Rattle.js_tree.specs.TermOf.{binding_term, pattern_term, parameter_term, parameters_term, directive_term, statement_term, function_term, function_word}
 use Rattle.js_tree.specs.declared.id.BindingIdentifier.{BindingIdentifier}
 use Rattle.js_tree.specs.declared.function.BindingPattern.{BindingPattern}
 use Rattle.js_tree.specs.declared.function.BindingPattern.TheVariants as binding_pattern
@@ -18,7 +16,7 @@ use Rattle.js_tree.specs.declared.function.FunctionKind.{FunctionKind}
 use Rattle.js_tree.specs.declared.function.FunctionKind.TheVariants as function_kind
 use Rattle.js_tree.specs.declared.statement.Statement.{Statement}
 use Rattle.js_tree.proofs.Levels.{function_parts}
-use Rattle.module_model.specs.Resolved.{finished, with_callee, in_callee}
+use Rattle.module_model.specs.Resolved.{finished}
 use Rattle.module_model.specs.Run.{spelled, written}
 use Rattle.prepare_core.specs.Names.{IsScopeOf, function_names, kids_of_function, is_value, within}
 use Rattle.prepare_core.specs.Carried.{Turn, as_it_is, spelled_out, usual, turn, turned, carried, carried_kids, function_with}

@@ -1,10 +1,10 @@
 -- The names that statements declare.
-use Rattle.std.proofs.Common.{◌≡◌, refl, sym, ◌∙◌, ap, ℕ, suc, List, [], ◌∷◌, ◌++◌, Option, None, Some, Bool, true, false, map, take, length, ◌<◌, ◌+◌, get_or, append_assoc, codes}
+use Rattle.std.proofs.Common.{◌≡◌, refl, sym, ◌∙◌, ap, ℕ, List, [], ◌∷◌, ◌++◌, map, take, length, ◌<◌, ◌+◌, get_or, append_assoc, codes}
 use Rattle.std.proofs.lemmas.List.{append-nil}
 use Rattle.std.specs.Prelude.{option_map}
-use Rattle.js_term.specs.Term.{Text, Term, Terms, node, none, more, all, maybe, flag}
+use Rattle.js_term.specs.Term.{Text, node, all, maybe, flag}
 use Rattle.js_term.specs.Scope.{declared, declared_all, body_names}
-use Rattle.js_tree.specs.TermOf.{directive_term, pattern_term, parameter_term, parameters_term, binding_term, declaration_term, statement_term, declarator_term, function_term, function_word}
+use Rattle.js_tree.specs.TermOf.{directive_term, pattern_term, parameter_term, binding_term, declaration_term, statement_term, declarator_term, function_term, function_word}
 use Rattle.js_tree.specs.declared.function.BindingPattern.{BindingPattern}
 use Rattle.js_tree.specs.declared.function.FormalParameter.{FormalParameter}
 use Rattle.js_tree.specs.declared.function.Directive.{Directive}

@@ -1,9 +1,8 @@
 -- A sorted set of sources.
-use Rattle.std.proofs.Common.{◌≡◌, refl, sym, ap, subst, List}
+use Rattle.std.proofs.Common.{◌≡◌, sym, subst, List}
 use Rattle.std.specs.Prelude.{◌↔◌, Contains}
 use Rattle.std.specs.BTreeSet.{BTreeSet, IsFromIterResult}
 use Rattle.std.specs.Cmp.Lexicographic.{slice_cmp, nat_list_cmp_total}
-use Rattle.std.specs.List.Sorted.{IsStrictlySortedBy}
 use Rattle.std.specs.Ordering.{nat_cmp}
 use Rattle.std.proofs.lemmas.Map.Lookups.{exact_bytes}
 use Rattle.std.proofs.lemmas.Map.Views.{btree_set_contains_iff, btree_set_contains_from_list}

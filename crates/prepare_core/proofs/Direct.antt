@@ -6,8 +6,8 @@ use Rattle.js_term.specs.Term.{Text, Kind, Term, absent, list, node, Terms, none
 use Rattle.js_term.specs.Scope.{Role, role, Env, inner, is_request}
 use Rattle.js_term.specs.Form.{Sort, Place, one, many, some, single, several, item_place, first_place, later_places, takes_list, stands_small, places, is_item}
 use Rattle.module_model.specs.Meaning.{keeps, kept, all_kept}
-use Rattle.module_model.specs.Resolved.{finished, read, read_kids}
-use Rattle.module_model.specs.Run.{written, rewritten, rewritten_each}
+use Rattle.module_model.specs.Resolved.{finished, read_kids}
+use Rattle.module_model.specs.Run.{written, rewritten}
 use Rattle.module_model.proofs.EveryKind.{differ, kinds, when}
 use Rattle.module_model.proofs.Small.{small_at, small_each, small_all, small_kind, SmallNode, small_node}
 use Rattle.prepare_core.specs.Carried.{Turn, as_it_is, spelled_out, usual, turn, turned, carried, carried_kids, is_usual, is_direct, are_direct}

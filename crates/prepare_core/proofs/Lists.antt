@@ -1,8 +1,8 @@
 -- Lists of nodes, one more item at a time.
-use Rattle.std.proofs.Common.{◌≡◌, refl, sym, ◌∙◌, ap, ℕ, List, [], ◌∷◌, ◌++◌, map, take, length, ◌<◌, ◌+◌, get_or, add-one, append_assoc}
+use Rattle.std.proofs.Common.{◌≡◌, refl, sym, ℕ, List, [], ◌∷◌, ◌++◌, map, take, length, ◌<◌, ◌+◌, get_or, add-one, append_assoc}
 use Rattle.std.proofs.Math.Seq.{take-suc}
 use Rattle.std.proofs.lemmas.List.{map-append, append-nil}
-use Rattle.js_term.specs.Term.{Text, Term, Terms, none, more, all}
+use Rattle.js_term.specs.Term.{Text, Term, all}
 use Rattle.js_term.specs.Scope.{declared, declared_all}
 
 pub one_more : {A B C : Type 0} (f : A → C) (g : B → C) (xs : List B) (ys : List A) (i : ℕ) (y : A) (d : B) → map f ys ≡ map g (take i xs) → i < length xs → f y ≡ g (get_or xs i d) → map f (ys ++ y ∷ []) ≡ map g (take (i + 1) xs)

@@ -1,5 +1,5 @@
 -- Looking a name up in the scopes that the runner carries.
-use Rattle.std.proofs.Common.{◌≡◌, refl, sym, ◌∙◌, ap, ℕ, List, [], ◌∷◌, ◌++◌, Option, None, Some, Bool, true, false, ◌||◌, cond, take, length, get_or, ◌<◌, ◌+◌, add-one}
+use Rattle.std.proofs.Common.{◌≡◌, refl, sym, ◌∙◌, ℕ, List, [], ◌∷◌, ◌++◌, Option, None, Some, Bool, true, false, ◌||◌, cond, take, length, get_or, ◌<◌, ◌+◌, add-one}
 use Rattle.std.proofs.Math.Seq.{take-suc}
 use Rattle.std.specs.Prelude.{option_map, MatchOption}
 use Rattle.std.specs.Cmp.Lexicographic.{nat_list_eq_equiv}
@@ -8,11 +8,11 @@ use Rattle.std.specs.HashSet.{HashSet}
 use Rattle.std.specs.List.{list_any}
 use Rattle.std.specs.Map.{lookup}
 use mathlib.Core.Bool.{true≢false}
-use Rattle.js_term.specs.Term.{Text, Term, is_text}
+use Rattle.js_term.specs.Term.{Text, is_text}
 use Rattle.js_term.specs.Lexeme.{is_one_of}
 use Rattle.js_term.specs.Node.{identifier_of}
-use Rattle.js_term.specs.Scope.{Scope, Env, Entry, here, imported, plainly, entry_of, resolve, import_of, found, global}
-use Rattle.module_model.specs.Run.{spelled, written}
+use Rattle.js_term.specs.Scope.{Env, Entry, here, imported, plainly, entry_of, resolve, import_of}
+use Rattle.module_model.specs.Run.{written}
 use Rattle.prepare_core.specs.Names.{hidden, brought_in, within, names_env, IsScopeOf}
 use Rattle.prepare_core.specs.declared.scopes.Import.{Import}
 

@@ -1,9 +1,7 @@
 -- The parts that the statements of a module play.
-use Rattle.std.proofs.Common.{◌≡◌, refl, sym, ◌∙◌, ap, ℕ, suc, List, [], ◌∷◌, ◌++◌, Option, None, Some, Bool, true, false, map, length, ◌+◌, ◌≤◌}
-use Rattle.std.specs.Prelude.{option_map}
-use Rattle.js_term.specs.Term.{Text, Kind, Term, absent, list, node, Terms, none, more, one, two, append, maybe, kids_of}
-use Rattle.js_term.specs.Scope.{Role, role, is_request, declared, brought, brings, bound_by, past}
-use Rattle.js_tree.specs.TermOf.{statement_term, declaration_term, function_word, specifiers_term}
+use Rattle.std.proofs.Common.{◌≡◌, refl, sym, ◌∙◌, ap, false}
+use Rattle.js_term.specs.Scope.{role, is_request}
+use Rattle.js_tree.specs.TermOf.{statement_term, declaration_term, function_word}
 use Rattle.js_tree.specs.declared.expression.Expression.{Expression}
 use Rattle.js_tree.specs.declared.function.Function.{Function}
 use Rattle.js_tree.specs.declared.function.FunctionKind.{FunctionKind}
@@ -18,7 +16,7 @@ use Rattle.js_tree.specs.declared.module.Declaration.TheVariants as declaration
 use Rattle.js_tree.specs.declared.module.ImportDeclaration.{ImportDeclaration}
 use Rattle.js_tree.specs.declared.module.ExportDeclaration.{ExportDeclaration}
 use Rattle.js_tree.proofs.Levels.{d_VariableDeclaration, d_FunctionDeclaration, s_ExpressionStatement, s_ReturnStatement, s_VariableDeclaration, s_FunctionDeclaration, s_ImportDeclaration, s_ExportDeclaration, function_parts}
-use Rattle.prepare_core.specs.Names.{plays, is_import, is_export, is_export_role}
+use Rattle.prepare_core.specs.Names.{is_import, is_export, is_export_role}
 
 pub effect_no_import : (n : ExpressionStatement Expression) → is_import (statement_term (statement.ExpressionStatement n)) ≡ false
 effect_no_import n = ap is_import (s_ExpressionStatement n)

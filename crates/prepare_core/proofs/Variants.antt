@@ -1,11 +1,9 @@
 -- Each variant of a node, carried from its carried parts.
-use Rattle.std.proofs.Common.{◌≡◌, refl, sym, ◌∙◌, ap, ℕ, List, [], ◌∷◌, ◌++◌, Option, None, Some, Bool, true, false, map, codes}
-use Rattle.std.specs.Prelude.{option_map}
-use Rattle.js_term.specs.Term.{Text, Term, Terms, Kind, node, none, all, maybe}
-use Rattle.js_term.specs.Node.{identifier_of, member_of}
+use Rattle.std.proofs.Common.{◌≡◌, refl, ◌∙◌, ap, ℕ, List, Some, false, map}
+use Rattle.js_term.specs.Term.{Text, Term, all}
+use Rattle.js_term.specs.Node.{identifier_of, member_of, array_of, sequence_of, object_of}
 use Rattle.js_term.specs.Scope.{role, Env, resolve, import_of}
-use Rattle.js_tree.specs.TermOf.{expression_term, statement_term, declaration_term, declarator_term, property_term, function_term, function_word, import_term}
-use Rattle.js_tree.specs.declared.id.IdentifierName.{IdentifierName}
+use Rattle.js_tree.specs.TermOf.{expression_term, statement_term, declaration_term, declarator_term, property_term, function_word}
 use Rattle.js_tree.specs.declared.id.IdentifierReference.{IdentifierReference}
 use Rattle.js_tree.specs.declared.expression.BooleanLiteral.{BooleanLiteral}
 use Rattle.js_tree.specs.declared.expression.NumericLiteral.{NumericLiteral}
@@ -23,22 +21,18 @@ use Rattle.js_tree.specs.declared.expression.Expression.TheVariants as expressio
 use Rattle.js_tree.specs.declared.function.Function.{Function}
 use Rattle.js_tree.specs.declared.function.FunctionKind.{FunctionKind}
 use Rattle.js_tree.specs.declared.function.FunctionKind.TheVariants as function_kind
-use Rattle.js_tree.specs.declared.statement.ExpressionStatement.{ExpressionStatement}
-use Rattle.js_tree.specs.declared.statement.ReturnStatement.{ReturnStatement}
 use Rattle.js_tree.specs.declared.statement.VariableDeclaration.{VariableDeclaration}
 use Rattle.js_tree.specs.declared.statement.VariableDeclarator.{VariableDeclarator}
-use Rattle.js_tree.specs.declared.statement.Statement.{Statement}
 use Rattle.js_tree.specs.declared.statement.Statement.TheVariants as statement
 use Rattle.js_tree.specs.declared.module.Declaration.{Declaration}
 use Rattle.js_tree.specs.declared.module.Declaration.TheVariants as declaration
-use Rattle.js_tree.specs.declared.module.ImportDeclaration.{ImportDeclaration}
 use Rattle.js_tree.specs.declared.module.ExportDeclaration.{ExportDeclaration}
-use Rattle.js_tree.proofs.Levels.{function_parts, e_BooleanLiteral, e_NumericLiteral, e_StringLiteral, e_Identifier, e_ArrayExpression, e_AwaitExpression, e_CallExpression, e_FunctionExpression, e_ObjectExpression, e_ParenthesizedExpression, e_SequenceExpression, e_StaticMemberExpression, d_VariableDeclaration, d_FunctionDeclaration, s_ExpressionStatement, s_ReturnStatement, s_VariableDeclaration, s_FunctionDeclaration, s_ImportDeclaration, s_ExportDeclaration, declarator_parts}
+use Rattle.js_tree.proofs.Levels.{function_parts, e_BooleanLiteral, e_NumericLiteral, e_StringLiteral, e_Identifier, e_ArrayExpression, e_AwaitExpression, e_CallExpression, e_FunctionExpression, e_ObjectExpression, e_ParenthesizedExpression, e_SequenceExpression, e_StaticMemberExpression, d_VariableDeclaration, s_VariableDeclaration, s_ExportDeclaration}
 use Rattle.module_model.specs.Resolved.{in_callee, is_reference, refers}
 use Rattle.module_model.specs.Run.{written}
 use Rattle.module_model.specs.Shape.{detached, import_name}
-use Rattle.prepare_core.specs.Carried.{carried, carried_kids, function_with, property_with, declarator_with}
-use Rattle.prepare_core.proofs.Carry.{each_carried, pattern_kept}
+use Rattle.prepare_core.specs.Carried.{carried, property_with, call_with}
+use Rattle.prepare_core.proofs.Carry.{each_carried}
 
 -- references
 
@@ -113,37 +107,22 @@ string_kept env n = rw (e_StringLiteral n) refl
 abbrev Each : Env → List Expression → List Expression → Type 0
 Each env es fs = map expression_term fs ≡ map (λ e. carried env (expression_term e)) es
 
-pub array_carried : (env : Env) (n m : ArrayExpression Expression) → Each env n.elements m.elements → expression_term (expression.ArrayExpression m) ≡ carried env (expression_term (expression.ArrayExpression n))
-array_carried env n m p = rw (e_ArrayExpression m, e_ArrayExpression n, p, each_carried env expression_term n.elements) refl
+pub array_carried : (env : Env) (n : ArrayExpression Expression) (es : List Expression) → Each env n.elements es → array_of (all (map expression_term es)) ≡ carried env (expression_term (expression.ArrayExpression n))
+array_carried env n es p = rw (e_ArrayExpression n, p, each_carried env expression_term n.elements) refl
 
-pub sequence_carried : (env : Env) (n m : SequenceExpression Expression) → Each env n.expressions m.expressions → expression_term (expression.SequenceExpression m) ≡ carried env (expression_term (expression.SequenceExpression n))
-sequence_carried env n m p = rw (e_SequenceExpression m, e_SequenceExpression n, p, each_carried env expression_term n.expressions) refl
+pub sequence_carried : (env : Env) (n : SequenceExpression Expression) (es : List Expression) → Each env n.expressions es → sequence_of (all (map expression_term es)) ≡ carried env (expression_term (expression.SequenceExpression n))
+sequence_carried env n es p = rw (e_SequenceExpression n, p, each_carried env expression_term n.expressions) refl
 
-pub await_carried : (env : Env) (n m : AwaitExpression Expression) → expression_term m.argument ≡ carried env (expression_term n.argument) → expression_term (expression.AwaitExpression m) ≡ carried env (expression_term (expression.AwaitExpression n))
-await_carried env n m p = rw (e_AwaitExpression m, e_AwaitExpression n, p) refl
+pub call_carried : (env : Env) (n : CallExpression Expression) (callee : Expression) (es : List Expression) → expression_term callee ≡ in_callee (expression_term n.callee) (carried env (expression_term n.callee)) → Each env n.arguments es → call_with n (expression_term callee) (all (map expression_term es)) ≡ carried env (expression_term (expression.CallExpression n))
+call_carried env n callee es p q = rw (e_CallExpression n, p, q, each_carried env expression_term n.arguments) refl
 
-pub parenthesized_carried : (env : Env) (n m : ParenthesizedExpression Expression) → expression_term m.expression ≡ carried env (expression_term n.expression) → expression_term (expression.ParenthesizedExpression m) ≡ carried env (expression_term (expression.ParenthesizedExpression n))
-parenthesized_carried env n m p = rw (e_ParenthesizedExpression m, e_ParenthesizedExpression n, p) refl
-
-pub call_carried : (env : Env) (n m : CallExpression Expression) → m.optional ≡ n.optional → expression_term m.callee ≡ in_callee (expression_term n.callee) (carried env (expression_term n.callee)) → Each env n.arguments m.arguments → expression_term (expression.CallExpression m) ≡ carried env (expression_term (expression.CallExpression n))
-call_carried env n m o p q = rw (e_CallExpression m, e_CallExpression n, o, p, q, each_carried env expression_term n.arguments) refl
-
-pub member_carried : (env : Env) (n m : StaticMemberExpression Expression) → m.optional ≡ n.optional → m.property.name ≡ n.property.name → expression_term m.object ≡ carried env (expression_term n.object) → expression_term (expression.StaticMemberExpression m) ≡ carried env (expression_term (expression.StaticMemberExpression n))
-member_carried env n m o q p = rw (e_StaticMemberExpression m, e_StaticMemberExpression n, o, p, q) refl
-
-pub object_carried : (env : Env) (n m : ObjectExpression Expression) → map (property_term expression_term) m.properties ≡ map (λ p. carried env (property_term expression_term p)) n.properties → expression_term (expression.ObjectExpression m) ≡ carried env (expression_term (expression.ObjectExpression n))
-object_carried env n m p = rw (e_ObjectExpression m, e_ObjectExpression n, p, each_carried env (property_term expression_term) n.properties) refl
+pub object_carried : (env : Env) (n : ObjectExpression Expression) (ps : List (ObjectProperty Expression)) → map (property_term expression_term) ps ≡ map (λ p. carried env (property_term expression_term p)) n.properties → object_of (all (map (property_term expression_term) ps)) ≡ carried env (expression_term (expression.ObjectExpression n))
+object_carried env n ps p = rw (e_ObjectExpression n, p, each_carried env (property_term expression_term) n.properties) refl
 
 pub property_carried : (env : Env) (n : ObjectProperty Expression) → carried env (property_term expression_term n) ≡ property_with n (carried env (expression_term n.value))
 property_carried env n = refl
 
-pub value_carried : (env : Env) (n m : Function) → function_term m ≡ carried env (function_term n) → expression_term (expression.FunctionExpression m) ≡ carried env (expression_term (expression.FunctionExpression n))
-value_carried env n m p = rw (e_FunctionExpression m, e_FunctionExpression n) p
-
 -- declarations and statements
-
-pub declarator_carried : (env : Env) (n : VariableDeclarator) → carried env (declarator_term n) ≡ declarator_with n (carried env (maybe (option_map expression_term n.init)))
-declarator_carried env n = ap (carried env) (declarator_parts n) ∙ rw (pattern_kept env n.id) refl
 
 abbrev EachDeclarator : Env → List VariableDeclarator → List VariableDeclarator → Type 0
 EachDeclarator env ds cs = map declarator_term cs ≡ map (λ d. carried env (declarator_term d)) ds
@@ -151,26 +130,8 @@ EachDeclarator env ds cs = map declarator_term cs ≡ map (λ d. carried env (de
 pub variables_declared : (env : Env) (n m : VariableDeclaration VariableDeclarator) → m.kind ≡ n.kind → EachDeclarator env n.declarations m.declarations → declaration_term (declaration.VariableDeclaration m) ≡ carried env (declaration_term (declaration.VariableDeclaration n))
 variables_declared env n m k p = rw (d_VariableDeclaration m, d_VariableDeclaration n, k, p, each_carried env declarator_term n.declarations) refl
 
-pub function_declared : (env : Env) (n m : Function) → function_term m ≡ carried env (function_term n) → declaration_term (declaration.FunctionDeclaration m) ≡ carried env (declaration_term (declaration.FunctionDeclaration n))
-function_declared env n m p = rw (d_FunctionDeclaration m, d_FunctionDeclaration n) p
-
 pub variables_carried : (env : Env) (n m : VariableDeclaration VariableDeclarator) → m.kind ≡ n.kind → EachDeclarator env n.declarations m.declarations → statement_term (statement.VariableDeclaration m) ≡ carried env (statement_term (statement.VariableDeclaration n))
 variables_carried env n m k p = rw (s_VariableDeclaration m, s_VariableDeclaration n, k, p, each_carried env declarator_term n.declarations) refl
-
-pub named_carried : (env : Env) (n m : Function) → function_term m ≡ carried env (function_term n) → statement_term (statement.FunctionDeclaration m) ≡ carried env (statement_term (statement.FunctionDeclaration n))
-named_carried env n m p = rw (s_FunctionDeclaration m, s_FunctionDeclaration n) p
-
-pub effect_carried : (env : Env) (n m : ExpressionStatement Expression) → expression_term m.expression ≡ carried env (expression_term n.expression) → statement_term (statement.ExpressionStatement m) ≡ carried env (statement_term (statement.ExpressionStatement n))
-effect_carried env n m p = rw (s_ExpressionStatement m, s_ExpressionStatement n, p) refl
-
-pub return_carried : (env : Env) (n m : ReturnStatement Expression) → maybe (option_map expression_term m.argument) ≡ carried env (maybe (option_map expression_term n.argument)) → statement_term (statement.ReturnStatement m) ≡ carried env (statement_term (statement.ReturnStatement n))
-return_carried env n m p = rw (s_ReturnStatement m, s_ReturnStatement n, p) refl
-
-pub return_some : (env : Env) (n m : ReturnStatement Expression) (e f : Expression) → m.argument ≡ Some f → n.argument ≡ Some e → expression_term f ≡ carried env (expression_term e) → statement_term (statement.ReturnStatement m) ≡ carried env (statement_term (statement.ReturnStatement n))
-return_some env n m e f p q h = return_carried env n m (rw (p, q) h)
-
-pub import_kept : (env : Env) (n m : ImportDeclaration) → import_term m ≡ import_term n → statement_term (statement.ImportDeclaration m) ≡ carried env (statement_term (statement.ImportDeclaration n))
-import_kept env n m p = rw (s_ImportDeclaration m, s_ImportDeclaration n, p) refl
 
 pub export_carried : (env : Env) (n m : ExportDeclaration Declaration) → declaration_term m.declaration ≡ carried env (declaration_term n.declaration) → statement_term (statement.ExportDeclaration m) ≡ carried env (statement_term (statement.ExportDeclaration n))
 export_carried env n m p = rw (s_ExportDeclaration m, s_ExportDeclaration n, p) refl

@@ -1,8 +1,8 @@
 -- The module as a whole.
-use Rattle.std.proofs.Common.{◌≡◌, refl, sym, ◌∙◌, ap, List, [], ◌∷◌, ◌++◌, Option, None, Some, Bool, true, false, cond, map}
+use Rattle.std.proofs.Common.{◌≡◌, refl, sym, ◌∙◌, ap, List, [], ◌∷◌, Option, None, Some, Bool, true, false, cond, map}
 use Rattle.std.specs.List.{list_any}
-use Rattle.js_term.specs.Term.{Text, Term, Terms, none, more, append, all, is_text}
-use Rattle.js_term.specs.Scope.{Env, Scope, Entry, here, arguments_object, imported, plainly, declared_all, entry_of, found, resolve, module_env, module_scope, all_brought, global}
+use Rattle.js_term.specs.Term.{Text, Terms, more, append, all, is_text}
+use Rattle.js_term.specs.Scope.{Env, Entry, here, plainly, declared_all, entry_of, found, module_env, all_brought, global}
 use Rattle.js_tree.specs.TermOf.{program_term, statement_term}
 use Rattle.js_tree.specs.declared.module.Program.{Program}
 use Rattle.js_tree.specs.declared.statement.Statement.{Statement}

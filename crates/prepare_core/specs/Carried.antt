@@ -5,7 +5,9 @@ use Rattle.std.specs.Prelude.{ℕ, suc, List, [], ◌∷◌, map, option_map, Bo
 use Rattle.js_term.specs.Term.{Text, Kind, Term, absent, list, node, Terms, none, more, two, all, maybe, flag}
 use Rattle.js_term.specs.Scope.{role, Env, inner}
 use Rattle.js_tree.specs.TermOf.{binding_term, pattern_term, parameters_term, directive_term, name_term, function_word, property_word}
+use Rattle.js_tree.specs.declared.expression.CallExpression.{CallExpression}
 use Rattle.js_tree.specs.declared.expression.Expression.{Expression}
+use Rattle.js_tree.specs.declared.expression.StaticMemberExpression.{StaticMemberExpression}
 use Rattle.js_tree.specs.declared.expression.ObjectProperty.{ObjectProperty}
 use Rattle.js_tree.specs.declared.function.Function.{Function}
 use Rattle.js_tree.specs.declared.statement.VariableDeclarator.{VariableDeclarator}
@@ -60,6 +62,12 @@ function_with n ss = node (function_word n.kind) (flag n.is_async (codes "async"
 
 abbrev pub property_with : ObjectProperty Expression → Term → Term
 property_with n value = node Kind.ObjectProperty (property_word n.kind ∷ flag n.method (codes "method") ∷ [] ∷ flag n.computed (codes "computed") ∷ []) (two (name_term n.key) value)
+
+abbrev pub call_with : CallExpression Expression → Term → Terms → Term
+call_with n callee arguments = node Kind.CallExpression (flag n.optional (codes "?.") ∷ []) (two callee (list arguments))
+
+abbrev pub member_with : StaticMemberExpression Expression → Term → Term
+member_with n object = node Kind.StaticMemberExpression (flag n.optional (codes "?.") ∷ []) (two object (name_term n.property))
 
 abbrev pub declarator_with : VariableDeclarator → Term → Term
 declarator_with n init = node Kind.VariableDeclarator [] (two (pattern_term n.id) init)

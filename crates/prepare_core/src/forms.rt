@@ -6,12 +6,12 @@ ghost use Rattle.module_model.specs.Shape.{marked, descriptor, getter, request, 
 ghost use Rattle.std.specs.Prelude.{◌≡◌, ◌∷◌, [], IfOk, map, codes};
 
 use crate::made::{
-    MADE, call, identifier_named, import_text, member, object, property, string, true_property,
+    MADE, call, identifier_named, import_text, member, property, string, true_property,
 };
+use crate::rebuilt::{array, awaited, effect, object, returned};
 use js_tree::{
-    ArrayExpression, AwaitExpression, BindingIdentifier, BindingPattern, Boxed, Expression,
-    ExpressionStatement, FormalParameters, Function, FunctionBody, FunctionKind, Ident,
-    IdentifierName, Items, ObjectProperty, PropertyKind, ReturnStatement, Statement,
+    BindingIdentifier, BindingPattern, Boxed, Expression, FormalParameters, Function, FunctionBody,
+    FunctionKind, Ident, IdentifierName, Items, ObjectProperty, PropertyKind, Statement,
     VariableDeclaration, VariableDeclarationKind, VariableDeclarator,
 };
 use std::alloc::{AllocError, Global};
@@ -23,10 +23,7 @@ fn returning(alloc: Global, target: Expression) -> Result<Function, AllocError>
 {
     let argument = Boxed::new(alloc, target)?;
     let mut statements = Items::new(alloc);
-    statements.push(Statement::ReturnStatement(ReturnStatement {
-        span: MADE,
-        argument: Some(argument),
-    }))?;
+    statements.push(returned(MADE, Some(argument)))?;
     Ok(Function {
         span: MADE,
         kind: FunctionKind::FunctionExpression,
@@ -71,18 +68,17 @@ fn described(alloc: Global, target: Expression) -> Result<Expression, AllocError
     properties.push(true_property(alloc, "enumerable")?)?;
     properties.push(true_property(alloc, "configurable")?)?;
     properties.push(get_method(alloc, target)?)?;
-    Ok(object(properties))
+    Ok(object(MADE, properties))
 }
 
 fn define_property(alloc: Global) -> Result<Expression, AllocError>
     ensures { IfOk result (λ it. expression_term it ≡ member_of (identifier_of (codes "Object")) (codes "defineProperty")) }
 {
-    let object = identifier_named(alloc, "Object")?;
-    member(alloc, object, Ident::new(alloc, "defineProperty")?)
+    let global = identifier_named(alloc, "Object")?;
+    member(alloc, global, Ident::new(alloc, "defineProperty")?)
 }
 
 /// The getter of the export `name`, which reads `target` when it is called.
-#[tactic(auto, using(crate::proofs::Nodes::effect_made))]
 pub(crate) fn getter(
     alloc: Global,
     name: Ident,
@@ -95,13 +91,10 @@ pub(crate) fn getter(
     arguments.push(string(name))?;
     arguments.push(described(alloc, target)?)?;
     let expression = call(alloc, define_property(alloc)?, arguments)?;
-    Ok(Statement::ExpressionStatement(ExpressionStatement {
-        span: MADE,
-        expression: Boxed::new(alloc, expression)?,
-    }))
+    Ok(effect(MADE, Boxed::new(alloc, expression)?))
 }
 
-#[tactic(auto, using(crate::proofs::Nodes::strings_more, crate::proofs::Nodes::array_made))]
+#[tactic(auto, using(crate::proofs::Nodes::strings_more))]
 fn names_array(alloc: Global, names: &[Ident]) -> Result<Expression, AllocError>
     ensures { IfOk result (λ it. expression_term it ≡ array_of (strings names.now)) }
 {
@@ -109,10 +102,7 @@ fn names_array(alloc: Global, names: &[Ident]) -> Result<Expression, AllocError>
     for one in names {
         elements.push(string(one.clone()?))?;
     }
-    Ok(Expression::ArrayExpression(ArrayExpression {
-        span: MADE,
-        elements,
-    }))
+    Ok(array(MADE, elements))
 }
 
 fn names_object(alloc: Global, names: &[Ident]) -> Result<Expression, AllocError>
@@ -121,7 +111,7 @@ fn names_object(alloc: Global, names: &[Ident]) -> Result<Expression, AllocError
     let array = names_array(alloc, names)?;
     let mut properties = Items::new(alloc);
     properties.push(property(alloc, "importedNames", array)?)?;
-    Ok(object(properties))
+    Ok(object(MADE, properties))
 }
 
 fn request_arguments(
@@ -137,16 +127,6 @@ fn request_arguments(
         arguments.push(names_object(alloc, names.as_slice())?)?;
     }
     Ok(arguments)
-}
-
-#[tactic(auto, using(crate::proofs::Nodes::await_made))]
-fn awaited(alloc: Global, value: Expression) -> Result<Expression, AllocError>
-    ensures { IfOk result (λ it. expression_term it ≡ await_of (expression_term value)) }
-{
-    Ok(Expression::AwaitExpression(AwaitExpression {
-        span: MADE,
-        argument: Boxed::new(alloc, value)?,
-    }))
 }
 
 #[tactic(auto, using(crate::proofs::Nodes::const_made))]
@@ -182,5 +162,6 @@ pub(crate) fn request(
 {
     let callee = identifier_named(alloc, "__vite_ssr_import__")?;
     let asked = call(alloc, callee, request_arguments(alloc, source, names)?)?;
-    constant(alloc, import_text(alloc, number)?, awaited(alloc, asked)?)
+    let value = awaited(MADE, Boxed::new(alloc, asked)?);
+    constant(alloc, import_text(alloc, number)?, value)
 }

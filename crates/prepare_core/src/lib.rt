@@ -10,6 +10,7 @@ mod kept;
 mod made;
 mod names;
 mod prepare;
+mod rebuilt;
 mod requests;
 mod scopes;
 mod statements;

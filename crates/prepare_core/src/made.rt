@@ -1,15 +1,16 @@
 //! The nodes that the runner makes. They stand nowhere in the text that the module was read from.
-ghost use Rattle.js_term.specs.Node.{identifier_of, string_of, member_of, call_of, object_of, property_of, boolean_of};
+ghost use Rattle.js_term.specs.Node.{identifier_of, string_of, member_of, call_of, property_of, boolean_of};
 ghost use Rattle.js_term.specs.Term.{all};
 ghost use Rattle.js_tree.specs.TermOf.{expression_term, property_term};
 ghost use Rattle.module_model.specs.Shape.{import_name, detached};
 ghost use Rattle.std.specs.Prelude.{◌≡◌, IfOk, map, true};
 
+use crate::rebuilt::sequence;
 use crate::scopes::Import;
 use js_tree::{
     BooleanLiteral, Boxed, CallExpression, Expression, Ident, IdentifierName, IdentifierReference,
-    Items, NumericLiteral, ObjectExpression, ObjectProperty, PropertyKind, SequenceExpression,
-    Span, StaticMemberExpression, StringLiteral,
+    Items, NumericLiteral, ObjectProperty, PropertyKind, Span, StaticMemberExpression,
+    StringLiteral,
 };
 use std::alloc::{AllocError, Global};
 
@@ -90,16 +91,6 @@ pub(crate) fn property(
     })
 }
 
-#[tactic(auto, using(crate::proofs::Nodes::object_made))]
-pub(crate) fn object(properties: Items<ObjectProperty>) -> Expression
-    ensures { expression_term result ≡ object_of (all (map (property_term expression_term) properties)) }
-{
-    Expression::ObjectExpression(ObjectExpression {
-        span: MADE,
-        properties,
-    })
-}
-
 #[tactic(auto, using(crate::proofs::Nodes::true_made))]
 pub(crate) fn true_property(alloc: Global, key: &str) -> Result<ObjectProperty, AllocError>
     ensures { IfOk result (λ it. property_term expression_term it ≡ property_of key.now (boolean_of true)) }
@@ -112,7 +103,7 @@ pub(crate) fn true_property(alloc: Global, key: &str) -> Result<ObjectProperty, 
 }
 
 /// `(0, value)`: a call of it passes no `this`.
-#[tactic(auto, using(crate::proofs::Nodes::detached_made))]
+#[tactic(auto, using(crate::proofs::Nodes::number_made))]
 pub(crate) fn detach(alloc: Global, value: Expression) -> Result<Expression, AllocError>
     ensures { IfOk result (λ it. expression_term it ≡ detached (expression_term value)) }
 {
@@ -120,10 +111,7 @@ pub(crate) fn detach(alloc: Global, value: Expression) -> Result<Expression, All
     let mut expressions = Items::new(alloc);
     expressions.push(Expression::NumericLiteral(NumericLiteral { span: MADE, raw }))?;
     expressions.push(value)?;
-    Ok(Expression::SequenceExpression(SequenceExpression {
-        span: MADE,
-        expressions,
-    }))
+    Ok(sequence(MADE, expressions))
 }
 
 pub(crate) fn import_text(alloc: Global, number: usize) -> Result<Ident, AllocError>

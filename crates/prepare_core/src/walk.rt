@@ -1,21 +1,23 @@
 //! A tree with each imported name written as the member of its request. The tree is made anew beside the old one.
 ghost use Rattle.js_term.specs.Node.{identifier_of};
-ghost use Rattle.js_tree.specs.TermOf.{expression_term, statement_term, declaration_term, declarator_term, property_term};
+ghost use Rattle.js_tree.specs.TermOf.{expression_term, statement_term, declaration_term, declarator_term, function_term, property_term};
 ghost use Rattle.module_model.specs.Resolved.{in_callee, is_reference};
 ghost use Rattle.module_model.specs.Run.{written};
 ghost use Rattle.prepare_core.specs.Carried.{carried};
 ghost use Rattle.prepare_core.specs.Names.{names_env};
 ghost use Rattle.std.specs.Prelude.{◌≡◌, ◌++◌, ◌∷◌, [], false, map, IfOk, OnOk, MatchOption};
 
-use crate::copies::{copy_import, with_init, with_statements, with_value};
+use crate::copies::copy_import;
 use crate::made::{detach, import_member};
 use crate::names::function_scope;
+use crate::rebuilt::{
+    array, awaited, effect, object, parenthesized, returned, sequence, with_callee,
+    with_declarators, with_init, with_object, with_statements, with_value,
+};
 use crate::scopes::{Import, find_import};
 use js_tree::{
-    ArrayExpression, AwaitExpression, Boxed, CallExpression, Declaration, ExportDeclaration,
-    Expression, ExpressionStatement, Ident, IdentifierReference, Items, ObjectExpression,
-    ObjectProperty, ParenthesizedExpression, ReturnStatement, SequenceExpression, Statement,
-    StaticMemberExpression, VariableDeclaration, VariableDeclarator,
+    Boxed, Declaration, ExportDeclaration, Expression, Function, Ident, IdentifierReference, Items,
+    ObjectProperty, Statement, VariableDeclarator,
 };
 use std::alloc::{AllocError, Global};
 use std::collections::{HashMap, HashSet};
@@ -86,61 +88,38 @@ fn rewrite_expression(
         Expression::NumericLiteral(n) => Ok(Expression::NumericLiteral(n.clone()?)),
         Expression::StringLiteral(n) => Ok(Expression::StringLiteral(n.clone()?)),
         Expression::Identifier(n) => rewrite_reference(alloc, imports, scopes.as_slice(), n),
-        Expression::ArrayExpression(n) => Ok(Expression::ArrayExpression(ArrayExpression {
-            span: n.span,
-            elements: rewrite_each(alloc, imports, scopes, n.elements.as_slice())?,
-        })),
-        Expression::AwaitExpression(n) => Ok(Expression::AwaitExpression(AwaitExpression {
-            span: n.span,
-            argument: rewrite_boxed(alloc, imports, scopes, n.argument.get())?,
-        })),
+        Expression::ArrayExpression(n) => {
+            let elements = rewrite_each(alloc, imports, scopes, n.elements.as_slice())?;
+            Ok(array(n.span, elements))
+        }
+        Expression::AwaitExpression(n) => {
+            let argument = rewrite_boxed(alloc, imports, scopes, n.argument.get())?;
+            Ok(awaited(n.span, argument))
+        }
         Expression::CallExpression(n) => {
             let callee = rewrite_callee(alloc, imports, scopes, n.callee.get())?;
-            let callee = Boxed::new(alloc, callee)?;
-            Ok(Expression::CallExpression(CallExpression {
-                span: n.span,
-                callee,
-                arguments: rewrite_each(alloc, imports, scopes, n.arguments.as_slice())?,
-                optional: n.optional,
-            }))
+            let arguments = rewrite_each(alloc, imports, scopes, n.arguments.as_slice())?;
+            Ok(with_callee(n, callee, arguments))
         }
         Expression::FunctionExpression(n) => {
-            let n = n.get();
-            let scope = function_scope(alloc, n)?;
-            let statements = rewrite_body(
-                alloc,
-                imports,
-                scopes,
-                scope,
-                n.body.statements.as_slice(),
-            )?;
-            let made = Boxed::new(alloc, with_statements(alloc, n, statements)?)?;
+            let made = rewrite_function(alloc, imports, scopes, n.get())?;
             Ok(Expression::FunctionExpression(made))
         }
-        Expression::ObjectExpression(n) => Ok(Expression::ObjectExpression(ObjectExpression {
-            span: n.span,
-            properties: rewrite_properties(alloc, imports, scopes, n.properties.as_slice())?,
-        })),
+        Expression::ObjectExpression(n) => {
+            let properties = rewrite_properties(alloc, imports, scopes, n.properties.as_slice())?;
+            Ok(object(n.span, properties))
+        }
         Expression::ParenthesizedExpression(n) => {
             let expression = rewrite_boxed(alloc, imports, scopes, n.expression.get())?;
-            Ok(Expression::ParenthesizedExpression(ParenthesizedExpression {
-                span: n.span,
-                expression,
-            }))
+            Ok(parenthesized(n.span, expression))
         }
         Expression::SequenceExpression(n) => {
-            Ok(Expression::SequenceExpression(SequenceExpression {
-                span: n.span,
-                expressions: rewrite_each(alloc, imports, scopes, n.expressions.as_slice())?,
-            }))
+            let expressions = rewrite_each(alloc, imports, scopes, n.expressions.as_slice())?;
+            Ok(sequence(n.span, expressions))
         }
         Expression::StaticMemberExpression(n) => {
-            Ok(Expression::StaticMemberExpression(StaticMemberExpression {
-                span: n.span,
-                object: rewrite_boxed(alloc, imports, scopes, n.object.get())?,
-                property: n.property.clone()?,
-                optional: n.optional,
-            }))
+            let object = rewrite_boxed(alloc, imports, scopes, n.object.get())?;
+            with_object(n, object)
         }
     }
 }
@@ -167,13 +146,16 @@ fn rewrite_callee(
     imports: &HashMap<Ident, Import>,
     scopes: &mut Items<HashSet<Ident>>,
     e: &Expression,
-) -> Result<Expression, AllocError>
+) -> Result<Boxed<Expression>, AllocError>
     ensures scopes { OnOk result (scopes.new ≡ scopes.old) }
     ensures term { IfOk result (λ it. expression_term it ≡ in_callee (expression_term e.now) (carried (names_env imports.now scopes.old) (expression_term e.now))) }
 {
     match as_reference(e) {
-        Some(n) => rewrite_called_reference(alloc, imports, scopes.as_slice(), n),
-        None => rewrite_expression(alloc, imports, scopes, e),
+        Some(n) => {
+            let made = rewrite_called_reference(alloc, imports, scopes.as_slice(), n)?;
+            Boxed::new(alloc, made)
+        }
+        None => rewrite_boxed(alloc, imports, scopes, e),
     }
 }
 
@@ -214,26 +196,24 @@ fn rewrite_properties(
     Ok(out)
 }
 
-/// The statements of a function, whose names are `scope`.
 #[cycle(rewrite)]
 #[tactic(auto, using(crate::proofs::Lists::one_more))]
-fn rewrite_body(
+fn rewrite_function(
     alloc: Global,
     imports: &HashMap<Ident, Import>,
     scopes: &mut Items<HashSet<Ident>>,
-    scope: HashSet<Ident>,
-    items: &[Statement],
-) -> Result<Items<Statement>, AllocError>
+    n: &Function,
+) -> Result<Boxed<Function>, AllocError>
     ensures scopes { OnOk result (scopes.new ≡ scopes.old) }
-    ensures terms { IfOk result (λ it. map statement_term it ≡ map (λ s. carried (names_env imports.now (scopes.old ++ scope ∷ [])) (statement_term s)) items.now) }
+    ensures term { IfOk result (λ it. function_term it ≡ carried (names_env imports.now scopes.old) (function_term n.now)) }
 {
-    scopes.push(scope)?;
+    scopes.push(function_scope(alloc, n)?)?;
     let mut out = Items::new(alloc);
-    for one in items {
+    for one in n.body.statements.as_slice() {
         out.push(rewrite_statement(alloc, imports, scopes, one)?)?;
     }
     let _inner = scopes.pop();
-    Ok(out)
+    with_statements(alloc, n, out)
 }
 
 #[cycle(rewrite)]
@@ -272,28 +252,12 @@ pub(crate) fn rewrite_declaration(
 {
     match d {
         Declaration::VariableDeclaration(n) => {
-            Ok(Declaration::VariableDeclaration(VariableDeclaration {
-                span: n.span,
-                kind: n.kind,
-                declarations: rewrite_declarators(
-                    alloc,
-                    imports,
-                    scopes,
-                    n.declarations.as_slice(),
-                )?,
-            }))
+            let items = n.declarations.as_slice();
+            let declarations = rewrite_declarators(alloc, imports, scopes, items)?;
+            Ok(Declaration::VariableDeclaration(with_declarators(n, declarations)))
         }
         Declaration::FunctionDeclaration(n) => {
-            let n = n.get();
-            let scope = function_scope(alloc, n)?;
-            let statements = rewrite_body(
-                alloc,
-                imports,
-                scopes,
-                scope,
-                n.body.statements.as_slice(),
-            )?;
-            let made = Boxed::new(alloc, with_statements(alloc, n, statements)?)?;
+            let made = rewrite_function(alloc, imports, scopes, n.get())?;
             Ok(Declaration::FunctionDeclaration(made))
         }
     }
@@ -311,45 +275,23 @@ pub(crate) fn rewrite_statement(
 {
     match s {
         Statement::ExpressionStatement(n) => {
-            Ok(Statement::ExpressionStatement(ExpressionStatement {
-                span: n.span,
-                expression: rewrite_boxed(alloc, imports, scopes, n.expression.get())?,
-            }))
+            let expression = rewrite_boxed(alloc, imports, scopes, n.expression.get())?;
+            Ok(effect(n.span, expression))
         }
         Statement::ReturnStatement(n) => match &n.argument {
-            None => Ok(Statement::ReturnStatement(ReturnStatement {
-                span: n.span,
-                argument: None,
-            })),
-            Some(e) => Ok(Statement::ReturnStatement(ReturnStatement {
-                span: n.span,
-                argument: Some(rewrite_boxed(alloc, imports, scopes, e.get())?),
-            })),
+            None => Ok(returned(n.span, None)),
+            Some(e) => {
+                let argument = rewrite_boxed(alloc, imports, scopes, e.get())?;
+                Ok(returned(n.span, Some(argument)))
+            }
         },
         Statement::VariableDeclaration(n) => {
-            let declarations = rewrite_declarators(
-                alloc,
-                imports,
-                scopes,
-                n.declarations.as_slice(),
-            )?;
-            Ok(Statement::VariableDeclaration(VariableDeclaration {
-                span: n.span,
-                kind: n.kind,
-                declarations,
-            }))
+            let items = n.declarations.as_slice();
+            let declarations = rewrite_declarators(alloc, imports, scopes, items)?;
+            Ok(Statement::VariableDeclaration(with_declarators(n, declarations)))
         }
         Statement::FunctionDeclaration(n) => {
-            let n = n.get();
-            let scope = function_scope(alloc, n)?;
-            let statements = rewrite_body(
-                alloc,
-                imports,
-                scopes,
-                scope,
-                n.body.statements.as_slice(),
-            )?;
-            let made = Boxed::new(alloc, with_statements(alloc, n, statements)?)?;
+            let made = rewrite_function(alloc, imports, scopes, n.get())?;
             Ok(Statement::FunctionDeclaration(made))
         }
         Statement::ImportDeclaration(n) => Ok(Statement::ImportDeclaration(copy_import(alloc, n)?)),

@@ -1,4 +1,4 @@
-use Rattle.std.proofs.Common.{◌≡◌, [], take, map}
+use Rattle.std.proofs.Common.{◌≡◌, take, map}
 use Rattle.js_term.specs.Term.{all, append}
 use Rattle.js_tree.specs.TermOf.{statement_term}
 use Rattle.module_model.specs.Run.{getters}

@@ -1,10 +1,9 @@
-use Rattle.std.proofs.Common.{◌≡◌, ◌≤◌, ◌∙◌, ap, map, length, arith}
+use Rattle.std.proofs.Common.{◌≤◌, ◌∙◌, ap, length, arith}
 use Rattle.std.proofs.lemmas.List.{take_all}
 use Rattle.js_term.specs.Node.{array_of}
-use Rattle.prepare_core.proofs.Nodes.{array_made}
 use Rattle.prepare_core.proofs.forms.names_array.Goals as goal
 
 pub returns : goal.returns
 returns c =
     let h : length c.args.names.now ≤ c.loop-one.one-index = omega arith in
-    array_made _ c.loop-one.elements ∙ ap array_of (rw (take_all c.loop-one.one-index c.args.names.now h) at c.loop-one.invariant)
+    c.array.ensures ∙ ap array_of (rw (take_all c.loop-one.one-index c.args.names.now h) at c.loop-one.invariant)

@@ -1,8 +1,10 @@
-use Rattle.std.proofs.Common.{refl}
+use Rattle.std.proofs.Common.{refl, ◌∙◌, ap}
+use Rattle.js_term.specs.Node.{return_of}
+use Rattle.js_tree.specs.TermOf.{expression_term}
 use Rattle.prepare_core.proofs.Nodes.{method_made}
 use Rattle.prepare_core.proofs.forms.returning.Goals as goal
 
 pub returns : goal.returns
 returns c =
-    let s = rw (c.new-statements.ensures, c.in_ok-argument.ensures) at c.in_ok-push.ensures.ok in
-    method_made _ _ c.args.target refl refl refl refl c.new-2.ensures c.new-3.ensures s
+    let s = rw c.new-statements.ensures at c.in_ok-push.ensures.ok in
+    method_made _ c.returned.result _ refl refl refl refl c.new-2.ensures c.new-3.ensures s (c.returned.ensures ∙ ap (λ e. return_of (expression_term e)) c.in_ok-argument.ensures)

@@ -1,4 +1,3 @@
-use Rattle.js_term.specs.Term.{all}
 use Rattle.prepare_core.specs.Names.{names_env}
 use Rattle.prepare_core.proofs.Asked.{import_kept}
 use Rattle.prepare_core.proofs.kept.push_kept.Goals as goal

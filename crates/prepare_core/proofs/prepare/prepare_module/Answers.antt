@@ -1,10 +1,8 @@
-use Rattle.std.proofs.Common.{◌≡◌, ap, ◌∙◌, map, refl, arith, length, ◌<◌, ◌^◌}
+use Rattle.std.proofs.Common.{ap, ◌∙◌, map, arith, length, ◌<◌, ◌^◌}
 use Rattle.std.proofs.lemmas.Bool.{and_parts}
 use Rattle.js_term.specs.Form.{items_of, has_small_form, has_distinct_names, is_printable}
 use Rattle.js_term.specs.Term.{all}
 use Rattle.js_tree.specs.TermOf.{program_term, statement_term}
-use Rattle.js_tree.specs.declared.module.Program.{Program}
-use Rattle.js_tree.specs.declared.statement.Statement.{Statement}
 use Rattle.module_model.specs.Meaning.{requests}
 use Rattle.module_model.specs.ReadBack.{read_back}
 use Rattle.module_model.proofs.Output.{run_means}
@@ -12,7 +10,7 @@ use Rattle.module_model.proofs.Printable.{run_printable}
 use Rattle.module_model.proofs.Small.{small_module}
 use Rattle.prepare_core.proofs.Brought.{requests_few}
 use Rattle.prepare_core.proofs.Direct.{all_kept_direct}
-use Rattle.prepare_core.proofs.Whole.{prepared, with_body}
+use Rattle.prepare_core.proofs.Whole.{prepared}
 use Rattle.prepare_core.proofs.prepare.prepare_module.Goals as goal
 
 pub prepared_body-requires : goal.prepared_body-requires

@@ -1,4 +1,3 @@
-use Rattle.std.proofs.Common.{rules}
 use Rattle.std.proofs.lemmas.Result.{IfOk-weaker}
 use Rattle.prepare_core.proofs.Deps.{deps_made}
 use Rattle.prepare_core.proofs.requests.deps_of.Goals as goal

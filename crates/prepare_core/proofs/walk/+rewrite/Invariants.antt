@@ -1,4 +1,4 @@
-use Rattle.std.proofs.Common.{◌≡◌, ◌++◌, ◌∷◌, [], take, map}
+use Rattle.std.proofs.Common.{◌≡◌, take, map}
 use Rattle.js_tree.specs.TermOf.{expression_term, statement_term, declarator_term, property_term}
 use Rattle.prepare_core.specs.Carried.{carried}
 use Rattle.prepare_core.specs.Names.{names_env}
@@ -16,10 +16,10 @@ invariant-rewrite_properties-loop-one l = record {
   terms : map (property_term expression_term) l.out ≡ map (λ p. carried (names_env l.imports l.fn.scopes) (property_term expression_term p)) (take l.one-index l.items);
 }
 
-abbrev pub invariant-rewrite_body-loop-one : goal.invariant-rewrite_body-loop-one
-invariant-rewrite_body-loop-one l = record {
-  same : l.scopes ≡ l.fn.scopes ++ l.fn.scope ∷ [];
-  terms : map statement_term l.out ≡ map (λ s. carried (names_env l.imports (l.fn.scopes ++ l.fn.scope ∷ [])) (statement_term s)) (take l.one-index l.items);
+abbrev pub invariant-rewrite_function-loop-one : goal.invariant-rewrite_function-loop-one
+invariant-rewrite_function-loop-one l = record {
+  same : l.scopes ≡ l.initial.scopes;
+  terms : map statement_term l.out ≡ map (λ s. carried (names_env l.imports l.initial.scopes) (statement_term s)) (take l.one-index l.one-items);
 }
 
 abbrev pub invariant-rewrite_declarators-loop-one : goal.invariant-rewrite_declarators-loop-one
