@@ -17,6 +17,7 @@ mod statements;
 mod walk;
 
 pub use fault::PrepareFault;
+pub use js_small::is_small;
 pub use prepare::{Prepared, prepare_module};
 
 #[cfg(test)]
