@@ -1,4 +1,4 @@
-use crate::run;
+use crate::{run, run_surely};
 use byte_streams::{MemorySink, MemorySource, SureSink, SureSource};
 use std::alloc::{AllocError, Global};
 use std::test::Fail;
@@ -90,5 +90,14 @@ fn one_byte_too_many(rt: HostRuntime) -> Result<(), Fail> {
     let blanks = vec![in alloc; b' '; 8388609]?;
     let mut source = SureSource::new(blanks);
     assert_eq!(rt; run(alloc, &words, &mut source, &mut SureSink::new()), 6);
+    Ok(())
+}
+
+#[test]
+fn the_most_bytes_are_read(rt: HostRuntime) -> Result<(), Fail> {
+    let alloc = rt.alloc();
+    let words = prepare_word(alloc)?;
+    let blanks = vec![in alloc; b' '; 8388608]?;
+    assert_eq!(rt; run_surely(alloc, &words, blanks), 1);
     Ok(())
 }
