@@ -1,0 +1,5 @@
+mod Turn
+mod Tests
+mod Complete
+mod Sound
+mod Reading
