@@ -36,14 +36,14 @@ property_end : (m : Mode) (d k : ℕ) (name a : Text) (x : Forms) → list_all p
 property_end m d k [] a x h = refl
 property_end m d k (c ∷ cs) a x h =
     by_step m (at d k PropertyName x) (at d k PropertyName x) c (cs ++ 125 ∷ a) (property_part m d k c x (left_of _ _ h))
-      ∙ property_end m d k cs a x (right_of _ _ h)
+    ∙ property_end m d k cs a x (right_of _ _ h)
 
 property_read : (m : Mode) (d k : ℕ) (name a : Text) (x : Forms) → p.is_property_name name ≡ true →
     run m (name ++ 125 ∷ a) (at d k PropertyBrace x) ≡ run m a (at d k Between (p.with_property_escape x))
 property_read m d k [] a x h = cc
 property_read m d k (c ∷ cs) a x h =
     by_step m (at d k PropertyBrace x) (at d k PropertyName x) c (cs ++ 125 ∷ a) (property_start m d k c x (left_of _ _ h))
-      ∙ property_end m d k cs a x (right_of _ _ h)
+    ∙ property_end m d k cs a x (right_of _ _ h)
 
 escaped_character : (m : Mode) (d k c : ℕ) (x : Forms) → m.unicode && p.is_p c ≡ false → step m (at d k Backslash x) c ≡ Some (at d k Between x)
 escaped_character m d k c x h = ap Some (when_false (m.unicode && p.is_p c) _ _ h)
@@ -54,11 +54,11 @@ escaped_p m d k c x h = ap Some (when_true (m.unicode && p.is_p c) _ _ h)
 escape_read : {m : Mode} {a b : Text} {x y : Forms} → Escape m a b x y → (d k : ℕ) → run m a (at d k Between x) ≡ run m b (at d k Between y)
 escape_read {m = m} (character {c = c} {a = a} {x = x} h) d k =
     by_step m (at d k Between x) (at d k Backslash x) 92 (c ∷ a) (backslash m d k x)
-      ∙ by_step m (at d k Backslash x) (at d k Between x) c a (escaped_character m d k c x h)
+    ∙ by_step m (at d k Backslash x) (at d k Between x) c a (escaped_character m d k c x h)
 escape_read {m = m} (property {c = c} name {a = a} {x = x} h n) d k =
     by_step m (at d k Between x) (at d k Backslash x) 92 (c ∷ 123 ∷ (name ++ 125 ∷ a)) (backslash m d k x)
-      ∙ by_step m (at d k Backslash x) (at d k Property x) c (123 ∷ (name ++ 125 ∷ a)) (escaped_p m d k c x h)
-      ∙ property_read m d k name a x n
+    ∙ by_step m (at d k Backslash x) (at d k Property x) c (123 ∷ (name ++ 125 ∷ a)) (escaped_p m d k c x h)
+    ∙ property_read m d k name a x n
 
 -- Classes
 
@@ -68,8 +68,8 @@ in_a_class m d k c x = when_false (nat_eq (k + 1) 0) _ _ (positive k)
 member_stays : (m : Mode) (s : Scanner) (c : ℕ) → p.is_member m c ≡ true → in_class m s c ≡ moved s Between
 member_stays m s c h =
     when_false (nat_eq c 92) (moved s Backslash) _ (not_true (nat_eq c 92) (left_of _ _ (left_of _ _ h)))
-      ∙ when_false (m.nests && nat_eq c 91) _ _ (not_true (m.nests && nat_eq c 91) (right_of _ _ h))
-      ∙ when_false (nat_eq c 93) _ _ (not_true (nat_eq c 93) (right_of _ _ (left_of _ _ h)))
+    ∙ when_false (m.nests && nat_eq c 91) _ _ (not_true (m.nests && nat_eq c 91) (right_of _ _ h))
+    ∙ when_false (nat_eq c 93) _ _ (not_true (nat_eq c 93) (right_of _ _ (left_of _ _ h)))
 
 member : (m : Mode) (d k c : ℕ) (x : Forms) → p.is_member m c ≡ true → step m (at d (k + 1) Between x) c ≡ Some (at d (k + 1) Between x)
 member m d k c x h = in_a_class m d k c x ∙ ap Some (member_stays m (at d (k + 1) Between x) c h)
@@ -88,9 +88,9 @@ parts_read no_part d k = refl
 parts_read (part_escape e r) d k = escape_read e d (k + 1) ∙ parts_read r d k
 parts_read {m = m} (part_class {a = a} {b = b} {x = x} {y = y} n i r) d k =
     by_step m (at d (k + 1) Between x) (at d (k + 1 + 1) Between x) 91 a (opens_class m d k x n)
-      ∙ parts_read i d (k + 1)
-      ∙ by_step m (at d (k + 1 + 1) Between y) (at d (k + 1) Between y) 93 b (closes_class m d (k + 1) y)
-      ∙ parts_read r d k
+    ∙ parts_read i d (k + 1)
+    ∙ by_step m (at d (k + 1 + 1) Between y) (at d (k + 1) Between y) 93 b (closes_class m d (k + 1) y)
+    ∙ parts_read r d k
 parts_read {m = m} (part_member {c = c} {a = a} {x = x} h r) d k =
     by_step m (at d (k + 1) Between x) (at d (k + 1) Between x) c a (member m d k c x h) ∙ parts_read r d k
 
@@ -105,8 +105,8 @@ off_letter m d k c x h = when_true (p.is_modifier c) _ _ h
 first_letter : (m : Mode) (d k c : ℕ) (x : Forms) → p.is_modifier c ≡ true → step m (at d k Question x) c ≡ Some (at d k Letters x)
 first_letter m d k c x h =
     when_false (nat_eq c 60) _ _ (apart p.is_modifier c 60 h refl)
-      ∙ when_false (p.is_look c) _ _ (neither (nat_eq c 61) (nat_eq c 33) (apart p.is_modifier c 61 h refl) (apart p.is_modifier c 33 h refl))
-      ∙ on_letter m d k c x h
+    ∙ when_false (p.is_look c) _ _ (neither (nat_eq c 61) (nat_eq c 33) (apart p.is_modifier c 61 h refl) (apart p.is_modifier c 33 h refl))
+    ∙ on_letter m d k c x h
 
 off_read : (m : Mode) (d k : ℕ) (off a : Text) (x : Forms) → list_all p.is_modifier off ≡ true →
     run m (off ++ 58 ∷ a) (at d k LettersOff x) ≡ run m a (at d k Between x)
@@ -140,7 +140,7 @@ name_part m d k c x h = when_false (nat_eq c 62) _ _ (apart is_identifier_part c
 name_start : (m : Mode) (d k c : ℕ) (x : Forms) → is_identifier_start c ≡ true → step m (at d k Angle x) c ≡ Some (at d k GroupName x)
 name_start m d k c x h =
     when_false (p.is_look c) _ _ (neither (nat_eq c 61) (nat_eq c 33) (apart is_identifier_start c 61 h equals_begins_none) (apart is_identifier_start c 33 h bang_begins_none))
-      ∙ when_true (is_identifier_start c) _ _ h
+    ∙ when_true (is_identifier_start c) _ _ h
 
 name_end : (m : Mode) (d k : ℕ) (name a : Text) (x : Forms) → list_all is_identifier_part name ≡ true →
     run m (name ++ 62 ∷ a) (at d k GroupName x) ≡ run m a (at d k Between (p.with_named_group x))
@@ -174,9 +174,9 @@ opener_read m (modifiers {x = x} h) d = modifiers_read m h (d + 1) 0 x
 other_stays : (s : Scanner) (c : ℕ) → p.is_other c ≡ true → in_items s c ≡ Some (moved s Between)
 other_stays s c h =
     when_false (nat_eq c 92) (Some (moved s Backslash)) _ (not_true (nat_eq c 92) (left_of _ _ (left_of _ _ (left_of _ _ h))))
-      ∙ when_false (nat_eq c 91) _ _ (not_true (nat_eq c 91) (right_of _ _ (left_of _ _ (left_of _ _ h))))
-      ∙ when_false (nat_eq c 40) _ _ (not_true (nat_eq c 40) (right_of _ _ (left_of _ _ h)))
-      ∙ when_false (nat_eq c 41) _ _ (not_true (nat_eq c 41) (right_of _ _ h))
+    ∙ when_false (nat_eq c 91) _ _ (not_true (nat_eq c 91) (right_of _ _ (left_of _ _ (left_of _ _ h))))
+    ∙ when_false (nat_eq c 40) _ _ (not_true (nat_eq c 40) (right_of _ _ (left_of _ _ h)))
+    ∙ when_false (nat_eq c 41) _ _ (not_true (nat_eq c 41) (right_of _ _ h))
 
 closes_group : (m : Mode) (d : ℕ) (x : Forms) → step m (at (d + 1) 0 Between x) 41 ≡ Some (at d 0 Between x)
 closes_group m d x = when_false (nat_eq (d + 1) 0) _ _ (positive d) ∙ ap (λ n. Some (at n 0 Between x)) (less_one d)

@@ -134,10 +134,10 @@ begins_with P c d a h r = subst (λ n. P (n ∷ a)) (sym (eqb-true c d h)) r
 at_end : (m : Mode) (z : Forms) (q : Place) (d k : ℕ) (x : Forms) → finish (at d k q x) ≡ Some z → Rest m q d k [] x z
 at_end m z Between d k x h =
     branch (nat_eq d 0 && nat_eq k 0) (Some x) None (λ o. o) h
-      (λ is r. subst (λ n. Open m n k [] x z) (sym (eqb-true d 0 (left_of _ _ is)))
-        (subst (λ n. Open m 0 n [] x z) (sym (eqb-true k 0 (right_of _ _ is)))
-          (subst (λ y. Items m [] [] x y) (same_forms r) no_item)))
-      (λ is r. impossible r)
+    (λ is r. subst (λ n. Open m n k [] x z) (sym (eqb-true d 0 (left_of _ _ is)))
+    (subst (λ n. Open m 0 n [] x z) (sym (eqb-true k 0 (right_of _ _ is)))
+    (subst (λ y. Items m [] [] x y) (same_forms r) no_item)))
+    (λ is r. impossible r)
 at_end m z Backslash d k x h = impossible h
 at_end m z Property d k x h = impossible h
 at_end m z PropertyBrace d k x h = impossible h
@@ -159,20 +159,20 @@ module _ (m : Mode) (z : Forms) (cs : Text) (known : (s : Scanner) → run m cs 
   closing zero x h = impossible h
   closing (suc d) x h =
       branch (nat_eq (suc d) 0) None (Some (at (suc d - 1) 0 Between x)) go h
-        (λ is r. impossible r)
-        (λ is r. group_ends m d cs x z (subst (λ n. Closes m n cs x z) (suc_less_one d) (known (at (suc d - 1) 0 Between x) r)))
+      (λ is r. impossible r)
+      (λ is r. group_ends m d cs x z (subst (λ n. Closes m n cs x z) (suc_less_one d) (known (at (suc d - 1) 0 Between x) r)))
 
   item : (q : Place) (d c : ℕ) (x : Forms) → go (in_items (at d 0 q x) c) ≡ Some z → Closes m d (c ∷ cs) x z
   item q d c x h =
       branch (nat_eq c 92) _ _ go h
-        (λ is r. begins_with (λ t. Closes m d t x z) c 92 cs is (let e = known (at d 0 Backslash x) r in more_escape m d 0 (92 ∷ cs) e.rest x e.middle z e.first e.last))
-        (λ not_92 h91. branch (nat_eq c 91) _ _ go h91
-          (λ is r. begins_with (λ t. Closes m d t x z) c 91 cs is (outer_class m d cs x z (known (at d 1 Between x) r)))
-          (λ not_91 h40. branch (nat_eq c 40) _ _ go h40
-            (λ is r. begins_with (λ t. Closes m d t x z) c 40 cs is (opens d x (known (at (d + 1) 0 Paren x) r)))
-            (λ not_40 h41. branch (nat_eq c 41) _ _ go h41
-              (λ is r. begins_with (λ t. Closes m d t x z) c 41 cs is (closing d x r))
-              (λ not_41 r. more_character m d c cs x z (all_false (nat_eq c 92) (nat_eq c 91) (nat_eq c 40) (nat_eq c 41) not_92 not_91 not_40 not_41) (known (at d 0 Between x) r)))))
+      (λ is r. begins_with (λ t. Closes m d t x z) c 92 cs is (let e = known (at d 0 Backslash x) r in more_escape m d 0 (92 ∷ cs) e.rest x e.middle z e.first e.last))
+      (λ not_92 h91. branch (nat_eq c 91) _ _ go h91
+      (λ is r. begins_with (λ t. Closes m d t x z) c 91 cs is (outer_class m d cs x z (known (at d 1 Between x) r)))
+      (λ not_91 h40. branch (nat_eq c 40) _ _ go h40
+      (λ is r. begins_with (λ t. Closes m d t x z) c 40 cs is (opens d x (known (at (d + 1) 0 Paren x) r)))
+      (λ not_40 h41. branch (nat_eq c 41) _ _ go h41
+      (λ is r. begins_with (λ t. Closes m d t x z) c 41 cs is (closing d x r))
+      (λ not_41 r. more_character m d c cs x z (all_false (nat_eq c 92) (nat_eq c 91) (nat_eq c 40) (nat_eq c 41) not_92 not_91 not_40 not_41) (known (at d 0 Between x) r)))))
     where
       opens : (d : ℕ) (x : Forms) → Rest m Paren (d + 1) 0 cs x z → Closes m d (40 ∷ cs) x z
       opens d x o = whole_group m d (40 ∷ cs) o.rest x o.middle z o.first (subst (λ n. Closes m n o.rest o.middle z) (add-one d) o.last)
@@ -180,14 +180,14 @@ module _ (m : Mode) (z : Forms) (cs : Text) (known : (s : Scanner) → run m cs 
   part : (q : Place) (d k c : ℕ) (x : Forms) → run m cs (in_class m (at d (suc k) q x) c) ≡ Some z → Open m d (suc k) (c ∷ cs) x z
   part q d k c x h =
       branch (nat_eq c 92) _ _ (run m cs) h
-        (λ is r. begins_with (λ t. Open m d (suc k) t x z) c 92 cs is (let e = known (at d (suc k) Backslash x) r in more_escape m d (suc k) (92 ∷ cs) e.rest x e.middle z e.first e.last))
-        (λ not_92 h91. branch (m.nests && nat_eq c 91) _ _ (run m cs) h91
-          (λ is r. begins_with (λ t. Open m d (suc k) t x z) c 91 cs (right_of _ _ is)
-            (inner_class m d k cs x z (left_of _ _ is) (subst (λ n. Open m d n cs x z) (add-one (suc k)) (known (at d (suc k + 1) Between x) r))))
-          (λ not_91 h93. branch (nat_eq c 93) _ _ (run m cs) h93
-            (λ is r. begins_with (λ t. Open m d (suc k) t x z) c 93 cs is
-              (class_ends m d k cs x z (subst (λ n. Open m d n cs x z) (suc_less_one k) (known (at d (suc k - 1) Between x) r))))
-            (λ not_93 r. more_member m d k c cs x z (none_of (nat_eq c 92) (nat_eq c 93) (m.nests && nat_eq c 91) not_92 not_93 not_91) (known (at d (suc k) Between x) r))))
+      (λ is r. begins_with (λ t. Open m d (suc k) t x z) c 92 cs is (let e = known (at d (suc k) Backslash x) r in more_escape m d (suc k) (92 ∷ cs) e.rest x e.middle z e.first e.last))
+      (λ not_92 h91. branch (m.nests && nat_eq c 91) _ _ (run m cs) h91
+      (λ is r. begins_with (λ t. Open m d (suc k) t x z) c 91 cs (right_of _ _ is)
+      (inner_class m d k cs x z (left_of _ _ is) (subst (λ n. Open m d n cs x z) (add-one (suc k)) (known (at d (suc k + 1) Between x) r))))
+      (λ not_91 h93. branch (nat_eq c 93) _ _ (run m cs) h93
+      (λ is r. begins_with (λ t. Open m d (suc k) t x z) c 93 cs is
+      (class_ends m d k cs x z (subst (λ n. Open m d n cs x z) (suc_less_one k) (known (at d (suc k - 1) Between x) r))))
+      (λ not_93 r. more_member m d k c cs x z (none_of (nat_eq c 92) (nat_eq c 93) (m.nests && nat_eq c 91) not_92 not_93 not_91) (known (at d (suc k) Between x) r))))
 
   either_kind : (q : Place) (d k c : ℕ) (x : Forms) → go (between m (at d k q x) c) ≡ Some z → Open m d k (c ∷ cs) x z
   either_kind q d zero c x h = item q d c x h
@@ -197,89 +197,89 @@ module _ (m : Mode) (z : Forms) (cs : Text) (known : (s : Scanner) → run m cs 
   letters : (q : Place) (d k c : ℕ) (x : Forms) → go (in_modifiers (at d k q x) c) ≡ Some z → Rest m Letters d k (c ∷ cs) x z
   letters q d k c x h =
       branch (nat_eq c 45) _ _ go h
-        (λ is r. begins_with (λ t. Rest m Letters d k t x z) c 45 cs is
-          (let w = known (at d k LettersOff x) r in (w.rest, subst (λ u. Modifiers (45 ∷ u) w.rest) (sym w.is) (letters_off [] w.word refl w.good), w.last)))
-        (λ other h2. branch (p.is_modifier c) _ _ go h2
-          (λ is r. let t = known (at d k Letters x) r in (t.0, more_letter c is t.1, t.2))
-          (λ not_letter h3. branch (nat_eq c 58) _ _ go h3
-            (λ is r. begins_with (λ t. Rest m Letters d k t x z) c 58 cs is (cs, letters_on [] refl, known (at d k Between x) r))
-            (λ not_58 r. impossible r)))
+      (λ is r. begins_with (λ t. Rest m Letters d k t x z) c 45 cs is
+      (let w = known (at d k LettersOff x) r in (w.rest, subst (λ u. Modifiers (45 ∷ u) w.rest) (sym w.is) (letters_off [] w.word refl w.good), w.last)))
+      (λ other h2. branch (p.is_modifier c) _ _ go h2
+      (λ is r. let t = known (at d k Letters x) r in (t.0, more_letter c is t.1, t.2))
+      (λ not_letter h3. branch (nat_eq c 58) _ _ go h3
+      (λ is r. begins_with (λ t. Rest m Letters d k t x z) c 58 cs is (cs, letters_on [] refl, known (at d k Between x) r))
+      (λ not_58 r. impossible r)))
 
   escape : (d k c : ℕ) (x : Forms) → go (step_at Backslash m (at d k Backslash x) c) ≡ Some z → Rest m Backslash d k (c ∷ cs) x z
   escape d k c x h =
       branch (m.unicode && p.is_p c) _ _ (run m cs) h
-        (λ is r. let t = known (at d k Property x) r in let w = t.2 in
-          let text_is : cs ≡ 123 ∷ (w.word ++ 125 ∷ w.rest) = t.1 ∙ ap (λ u. 123 ∷ u) w.is in
-          record {
-            rest = w.rest;
-            middle = p.with_property_escape x;
-            first = subst (λ u. Escape m (92 ∷ c ∷ u) w.rest x (p.with_property_escape x)) (sym text_is) (property w.word is w.good);
-            last = w.last;
-          })
-        (λ is r. record { rest = cs; middle = x; first = character is; last = known (at d k Between x) r })
+      (λ is r. let t = known (at d k Property x) r in let w = t.2 in
+      let text_is : cs ≡ 123 ∷ (w.word ++ 125 ∷ w.rest) = t.1 ∙ ap (λ u. 123 ∷ u) w.is in
+      record {
+        rest = w.rest;
+        middle = p.with_property_escape x;
+        first = subst (λ u. Escape m (92 ∷ c ∷ u) w.rest x (p.with_property_escape x)) (sym text_is) (property w.word is w.good);
+        last = w.last;
+      })
+      (λ is r. record { rest = cs; middle = x; first = character is; last = known (at d k Between x) r })
 
   angle : (d k c : ℕ) (x : Forms) → go (step_at Angle m (at d k Angle x) c) ≡ Some z → Rest m Angle d k (c ∷ cs) x z
   angle d k c x h =
       branch (p.is_look c) _ _ go h
-        (λ is r. record { rest = cs; middle = p.with_look_behind x; first = look_behind is; last = known (at d k Between (p.with_look_behind x)) r })
-        (λ other h2. branch (is_identifier_start c) _ _ go h2
-          (λ is r. let w = known (at d k GroupName x) r in record {
-            rest = w.rest;
-            middle = p.with_named_group x;
-            first = subst (λ u. Opener (40 ∷ 63 ∷ 60 ∷ c ∷ u) w.rest x (p.with_named_group x)) (sym w.is) (named (c ∷ w.word) (both is w.good));
-            last = w.last;
-          })
-          (λ none r. impossible r))
+      (λ is r. record { rest = cs; middle = p.with_look_behind x; first = look_behind is; last = known (at d k Between (p.with_look_behind x)) r })
+      (λ other h2. branch (is_identifier_start c) _ _ go h2
+      (λ is r. let w = known (at d k GroupName x) r in record {
+        rest = w.rest;
+        middle = p.with_named_group x;
+        first = subst (λ u. Opener (40 ∷ 63 ∷ 60 ∷ c ∷ u) w.rest x (p.with_named_group x)) (sym w.is) (named (c ∷ w.word) (both is w.good));
+        last = w.last;
+      })
+      (λ none r. impossible r))
 
   question : (d k c : ℕ) (x : Forms) → go (step_at Question m (at d k Question x) c) ≡ Some z → Rest m Question d k (c ∷ cs) x z
   question d k c x h =
       branch (nat_eq c 60) _ _ go h
-        (λ is r. begins_with (λ t. Rest m Question d k t x z) c 60 cs is
-          (let o = known (at d k Angle x) r in record { rest = o.rest; middle = o.middle; first = o.first; last = o.last }))
-        (λ other h2. branch (p.is_look c) _ _ go h2
-          (λ is r. record { rest = cs; middle = x; first = look_ahead is; last = known (at d k Between x) r })
-          (λ no_look h3. let t = letters Question d k c x h3 in record { rest = t.0; middle = x; first = modifiers t.1; last = t.2 }))
+      (λ is r. begins_with (λ t. Rest m Question d k t x z) c 60 cs is
+      (let o = known (at d k Angle x) r in record { rest = o.rest; middle = o.middle; first = o.first; last = o.last }))
+      (λ other h2. branch (p.is_look c) _ _ go h2
+      (λ is r. record { rest = cs; middle = x; first = look_ahead is; last = known (at d k Between x) r })
+      (λ no_look h3. let t = letters Question d k c x h3 in record { rest = t.0; middle = x; first = modifiers t.1; last = t.2 }))
 
   paren : (d k c : ℕ) (x : Forms) → go (step_at Paren m (at d k Paren x) c) ≡ Some z → Rest m Paren d k (c ∷ cs) x z
   paren d k c x h =
       branch (nat_eq c 63) _ _ go h
-        (λ is r. begins_with (λ t. Rest m Paren d k t x z) c 63 cs is
-          (let o = known (at d k Question x) r in record { rest = o.rest; middle = o.middle; first = o.first; last = o.last }))
-        (λ is h2. record { rest = c ∷ cs; middle = x; first = capture (ap not is); last = either_kind Paren d k c x h2 })
+      (λ is r. begins_with (λ t. Rest m Paren d k t x z) c 63 cs is
+      (let o = known (at d k Question x) r in record { rest = o.rest; middle = o.middle; first = o.first; last = o.last }))
+      (λ is h2. record { rest = c ∷ cs; middle = x; first = capture (ap not is); last = either_kind Paren d k c x h2 })
 
   one : (q : Place) (d k c : ℕ) (x : Forms) → go (step_at q m (at d k q x) c) ≡ Some z → Rest m q d k (c ∷ cs) x z
   one Between d k c x h = either_kind Between d k c x h
   one Backslash d k c x h = escape d k c x h
   one Property d k c x h =
       branch (nat_eq c 123) _ _ go h
-        (λ is r. (cs, ap (λ n. n ∷ cs) (eqb-true c 123 is), known (at d k PropertyBrace x) r))
-        (λ is r. impossible r)
+      (λ is r. (cs, ap (λ n. n ∷ cs) (eqb-true c 123 is), known (at d k PropertyBrace x) r))
+      (λ is r. impossible r)
   one PropertyBrace d k c x h =
       branch (p.is_property_part c) _ _ go h
-        (λ is r. more_word c (λ w good. both is good) (known (at d k PropertyName x) r))
-        (λ is r. impossible r)
+      (λ is r. more_word c (λ w good. both is good) (known (at d k PropertyName x) r))
+      (λ is r. impossible r)
   one PropertyName d k c x h =
       branch (p.is_property_part c) _ _ go h
-        (λ is r. more_word c (λ w good. both is good) (known (at d k PropertyName x) r))
-        (λ other h2. branch (nat_eq c 125) _ _ go h2
-          (λ is r. word_ends (list_all p.is_property_part) _ c 125 cs refl is (known (at d k Between (p.with_property_escape x)) r))
-          (λ is r. impossible r))
+      (λ is r. more_word c (λ w good. both is good) (known (at d k PropertyName x) r))
+      (λ other h2. branch (nat_eq c 125) _ _ go h2
+      (λ is r. word_ends (list_all p.is_property_part) _ c 125 cs refl is (known (at d k Between (p.with_property_escape x)) r))
+      (λ is r. impossible r))
   one Paren d k c x h = paren d k c x h
   one Question d k c x h = question d k c x h
   one Letters d k c x h = letters Letters d k c x h
   one LettersOff d k c x h =
       branch (p.is_modifier c) _ _ go h
-        (λ is r. more_word c (λ w good. both is good) (known (at d k LettersOff x) r))
-        (λ other h2. branch (nat_eq c 58) _ _ go h2
-          (λ is r. word_ends (list_all p.is_modifier) _ c 58 cs refl is (known (at d k Between x) r))
-          (λ is r. impossible r))
+      (λ is r. more_word c (λ w good. both is good) (known (at d k LettersOff x) r))
+      (λ other h2. branch (nat_eq c 58) _ _ go h2
+      (λ is r. word_ends (list_all p.is_modifier) _ c 58 cs refl is (known (at d k Between x) r))
+      (λ is r. impossible r))
   one Angle d k c x h = angle d k c x h
   one GroupName d k c x h =
       branch (nat_eq c 62) _ _ go h
-        (λ is r. word_ends (list_all is_identifier_part) _ c 62 cs refl is (known (at d k Between (p.with_named_group x)) r))
-        (λ other h2. branch (is_identifier_part c) _ _ go h2
-          (λ is r. more_word c (λ w good. both is good) (known (at d k GroupName x) r))
-          (λ is r. impossible r))
+      (λ is r. word_ends (list_all is_identifier_part) _ c 62 cs refl is (known (at d k Between (p.with_named_group x)) r))
+      (λ other h2. branch (is_identifier_part c) _ _ go h2
+      (λ is r. more_word c (λ w good. both is good) (known (at d k GroupName x) r))
+      (λ is r. impossible r))
 
 taken : (m : Mode) (z : Forms) (text : Text) (s : Scanner) → run m text s ≡ Some z → Rest m s.place s.groups s.classes text s.forms z
 taken m z [] s h = at_end m z s.place s.groups s.classes s.forms h

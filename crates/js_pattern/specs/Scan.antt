@@ -20,18 +20,18 @@ found s x = record s { place = Between; forms = x }
 
 abbrev pub in_items : Scanner → ℕ → Option Scanner
 in_items s c =
-  if nat_eq c 92 then Some (moved s Backslash)
-  else if nat_eq c 91 then Some (record s { classes = 1; place = Between })
-  else if nat_eq c 40 then Some (record s { groups = s.groups + 1; place = Paren })
-  else if nat_eq c 41 then (if nat_eq s.groups 0 then None else Some (record s { groups = s.groups - 1; place = Between }))
-  else Some (moved s Between)
+    if nat_eq c 92 then Some (moved s Backslash)
+    else if nat_eq c 91 then Some (record s { classes = 1; place = Between })
+    else if nat_eq c 40 then Some (record s { groups = s.groups + 1; place = Paren })
+    else if nat_eq c 41 then (if nat_eq s.groups 0 then None else Some (record s { groups = s.groups - 1; place = Between }))
+    else Some (moved s Between)
 
 abbrev pub in_class : Mode → Scanner → ℕ → Scanner
 in_class m s c =
-  if nat_eq c 92 then moved s Backslash
-  else if m.nests && nat_eq c 91 then record s { classes = s.classes + 1; place = Between }
-  else if nat_eq c 93 then record s { classes = s.classes - 1; place = Between }
-  else moved s Between
+    if nat_eq c 92 then moved s Backslash
+    else if m.nests && nat_eq c 91 then record s { classes = s.classes + 1; place = Between }
+    else if nat_eq c 93 then record s { classes = s.classes - 1; place = Between }
+    else moved s Between
 
 abbrev pub between : Mode → Scanner → ℕ → Option Scanner
 between m s c = if nat_eq s.classes 0 then in_items s c else Some (in_class m s c)
@@ -41,36 +41,36 @@ escaped m s c = if m.unicode && is_p c then moved s Property else moved s Betwee
 
 abbrev pub in_property : Scanner → ℕ → Option Scanner
 in_property s c =
-  if is_property_part c then Some (moved s PropertyName)
-  else if nat_eq c 125 then Some (found s (with_property_escape s.forms))
-  else None
+    if is_property_part c then Some (moved s PropertyName)
+    else if nat_eq c 125 then Some (found s (with_property_escape s.forms))
+    else None
 
 abbrev pub in_letters : Scanner → Place → ℕ → Option Scanner
 in_letters s p c =
-  if is_modifier c then Some (moved s p)
-  else if nat_eq c 58 then Some (moved s Between)
-  else None
+    if is_modifier c then Some (moved s p)
+    else if nat_eq c 58 then Some (moved s Between)
+    else None
 
 abbrev pub in_modifiers : Scanner → ℕ → Option Scanner
 in_modifiers s c = if nat_eq c 45 then Some (moved s LettersOff) else in_letters s Letters c
 
 abbrev pub behind_question : Scanner → ℕ → Option Scanner
 behind_question s c =
-  if nat_eq c 60 then Some (moved s Angle)
-  else if is_look c then Some (moved s Between)
-  else in_modifiers s c
+    if nat_eq c 60 then Some (moved s Angle)
+    else if is_look c then Some (moved s Between)
+    else in_modifiers s c
 
 abbrev pub behind_angle : Scanner → ℕ → Option Scanner
 behind_angle s c =
-  if is_look c then Some (found s (with_look_behind s.forms))
-  else if is_identifier_start c then Some (moved s GroupName)
-  else None
+    if is_look c then Some (found s (with_look_behind s.forms))
+    else if is_identifier_start c then Some (moved s GroupName)
+    else None
 
 abbrev pub in_name : Scanner → ℕ → Option Scanner
 in_name s c =
-  if nat_eq c 62 then Some (found s (with_named_group s.forms))
-  else if is_identifier_part c then Some (moved s GroupName)
-  else None
+    if nat_eq c 62 then Some (found s (with_named_group s.forms))
+    else if is_identifier_part c then Some (moved s GroupName)
+    else None
 
 abbrev pub step_at : Place → Mode → Scanner → ℕ → Option Scanner
 step_at Between m s c = between m s c

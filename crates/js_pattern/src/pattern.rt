@@ -44,7 +44,10 @@ fn mode_of(flags: RegExpFlags) -> Mode
     ensures { result ≡ spec.mode_of flags }
 {
     let nests = flags.contains(RegExpFlags::V);
-    Mode { unicode: nests || flags.contains(RegExpFlags::U), nests }
+    Mode {
+        unicode: nests || flags.contains(RegExpFlags::U),
+        nests,
+    }
 }
 
 fn scan(text: &str, mode: Mode) -> Result<Forms, PatternFault>
@@ -63,7 +66,6 @@ fn scan(text: &str, mode: Mode) -> Result<Forms, PatternFault>
 }
 
 /// Reads a pattern, in time linear in the text. Quantifiers and ranges of classes are not checked.
-
 pub fn read_pattern(text: &str, flags: RegExpFlags) -> Result<Forms, PatternFault>
     ensures read { IfOk result (λ forms. spec.IsPattern (spec.mode_of flags) (chars text.now) forms) }
     ensures pattern { (forms : Forms) → spec.IsPattern (spec.mode_of flags) (chars text.now) forms → result ≡ Ok forms }

@@ -64,7 +64,12 @@ impl Scanner {
             named_groups: false,
             property_escapes: false,
         };
-        Scanner { groups: 0, classes: 0, place: Place::Between, forms }
+        Scanner {
+            groups: 0,
+            classes: 0,
+            place: Place::Between,
+            forms,
+        }
     }
 
     fn at(self, place: Place) -> Scanner
@@ -77,7 +82,11 @@ impl Scanner {
     fn with(self, forms: Forms) -> Scanner
         ensures { result ≡ spec.found self forms }
     {
-        Scanner { place: Place::Between, forms, ..self }
+        Scanner {
+            place: Place::Between,
+            forms,
+            ..self
+        }
     }
 
     fn in_items(self, c: char) -> Option<Scanner>
@@ -86,10 +95,22 @@ impl Scanner {
     {
         match c {
             '\\' => Some(self.at(Place::Backslash)),
-            '[' => Some(Scanner { classes: 1, place: Place::Between, ..self }),
-            '(' => Some(Scanner { groups: self.groups + 1, place: Place::Paren, ..self }),
+            '[' => Some(Scanner {
+                classes: 1,
+                place: Place::Between,
+                ..self
+            }),
+            '(' => Some(Scanner {
+                groups: self.groups + 1,
+                place: Place::Paren,
+                ..self
+            }),
             ')' if self.groups == 0 => None,
-            ')' => Some(Scanner { groups: self.groups - 1, place: Place::Between, ..self }),
+            ')' => Some(Scanner {
+                groups: self.groups - 1,
+                place: Place::Between,
+                ..self
+            }),
             _ => Some(self.at(Place::Between)),
         }
     }
@@ -101,8 +122,16 @@ impl Scanner {
     {
         match c {
             '\\' => self.at(Place::Backslash),
-            '[' if mode.nests => Scanner { classes: self.classes + 1, place: Place::Between, ..self },
-            ']' => Scanner { classes: self.classes - 1, place: Place::Between, ..self },
+            '[' if mode.nests => Scanner {
+                classes: self.classes + 1,
+                place: Place::Between,
+                ..self
+            },
+            ']' => Scanner {
+                classes: self.classes - 1,
+                place: Place::Between,
+                ..self
+            },
             _ => self.at(Place::Between),
         }
     }
@@ -135,7 +164,10 @@ impl Scanner {
         if is_property_part(c) {
             Some(self.at(Place::PropertyName))
         } else if c == '}' {
-            Some(self.with(Forms { property_escapes: true, ..self.forms }))
+            Some(self.with(Forms {
+                property_escapes: true,
+                ..self.forms
+            }))
         } else {
             None
         }
@@ -178,7 +210,10 @@ impl Scanner {
         ensures { result ≡ spec.behind_angle self c }
     {
         if c == '=' || c == '!' {
-            Some(self.with(Forms { look_behind: true, ..self.forms }))
+            Some(self.with(Forms {
+                look_behind: true,
+                ..self.forms
+            }))
         } else if is_identifier_start(c) {
             Some(self.at(Place::GroupName))
         } else {
@@ -190,7 +225,10 @@ impl Scanner {
         ensures { result ≡ spec.in_name self c }
     {
         if c == '>' {
-            Some(self.with(Forms { named_groups: true, ..self.forms }))
+            Some(self.with(Forms {
+                named_groups: true,
+                ..self.forms
+            }))
         } else if is_identifier_part(c) {
             Some(self.at(Place::GroupName))
         } else {

@@ -10,11 +10,20 @@ const NO_FORMS: Forms = Forms {
     property_escapes: false,
 };
 
-const LOOK_BEHIND: Forms = Forms { look_behind: true, named_groups: false, property_escapes: false };
+const LOOK_BEHIND: Forms = Forms {
+    look_behind: true,
+    ..NO_FORMS
+};
 
-const NAMED_GROUPS: Forms = Forms { look_behind: false, named_groups: true, property_escapes: false };
+const NAMED_GROUPS: Forms = Forms {
+    named_groups: true,
+    ..NO_FORMS
+};
 
-const PROPERTY_ESCAPES: Forms = Forms { look_behind: false, named_groups: false, property_escapes: true };
+const PROPERTY_ESCAPES: Forms = Forms {
+    property_escapes: true,
+    ..NO_FORMS
+};
 
 fn forms(pattern: &str, flags: RegExpFlags) -> Option<Forms> {
     read_pattern(pattern, flags).ok()
@@ -33,14 +42,42 @@ fn forms_that_occur(rt: HostRuntime) {
 
 #[test]
 fn patterns_without_a_form(rt: HostRuntime) {
-    for pattern in ["", "\\(", "[(]", "[\\]]", "[[]", "(?i-s:a)", "(?-:a)", "(?:a)|(?=b)(?!c)", "\\p", "]{"] {
-        assert_eq!(rt; forms(pattern, RegExpFlags::empty()), Some(NO_FORMS), "{pattern}");
+    for pattern in [
+        "",
+        "\\(",
+        "[(]",
+        "[\\]]",
+        "[[]",
+        "(?i-s:a)",
+        "(?-:a)",
+        "(?:a)|(?=b)(?!c)",
+        "\\p",
+        "]{",
+    ] {
+        assert_eq!(rt;
+            forms(pattern, RegExpFlags::empty()),
+            Some(NO_FORMS),
+            "{pattern}"
+        );
     }
 }
 
 #[test]
 fn faults(rt: HostRuntime) {
-    for pattern in ["(?z)", "[a", "(a", "a)", "\\", "[\\]", "(?<1>a)", "(?<a", "(?i", "(?i-i-:a)", "(?", "(?<>a)"] {
+    for pattern in [
+        "(?z)",
+        "[a",
+        "(a",
+        "a)",
+        "\\",
+        "[\\]",
+        "(?<1>a)",
+        "(?<a",
+        "(?i",
+        "(?i-i-:a)",
+        "(?",
+        "(?<>a)",
+    ] {
         assert_eq!(rt; forms(pattern, RegExpFlags::empty()), None, "{pattern}");
     }
     for pattern in ["\\p", "\\p{}", "\\p{L", "[\\p{L]"] {

@@ -30,4 +30,4 @@ loop-at-preserved c =
 pub returns-clause-scan : goal.returns-clause-scan
 returns-clause-scan c =
     ap result_ok c.ok_or.ensures.value ∙ ok_of c.finish.result _ ∙ c.finish.ensures
-      ∙ sym (ends c.args.mode c.loop-at.scanner (char_indices_rest c.loop-at.rest) c.in_default.ensures.steps.0) ∙ c.loop-at.invariant.same
+    ∙ sym (ends c.args.mode c.loop-at.scanner (char_indices_rest c.loop-at.rest) c.in_default.ensures.steps.0) ∙ c.loop-at.invariant.same
