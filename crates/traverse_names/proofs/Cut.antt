@@ -1,15 +1,15 @@
 -- Where a name may be cut, behind its leading underscores and before the digits at its end, and what these digits are.
-use Rattle.std.proofs.Common.{◌≡◌, ◌≢◌, ℕ, ◌+◌, ◌-◌, ◌^◌, ◌<◌, ◌≤◌, Bool, true, false, eqb, cond, List, [], ◌∷◌, length, get_or, Option, None, Some, Result, Ok, Err, arith, rules, tests, subst, sym, refl, ap, ◌∙◌, zero, suc}
+use Rattle.std.proofs.Common.{◌≡◌, ◌≢◌, ℕ, ◌+◌, ◌-◌, ◌^◌, ◌<◌, ◌≤◌, true, false, eqb, List, [], ◌∷◌, length, get_or, None, Err, arith, subst, sym, ◌∙◌, zero, suc}
 use Rattle.std.specs.Char.{is_ascii_digit}
 use Rattle.std.specs.Int.{IsInRange}
-use Rattle.std.specs.List.{prefix_len, suffix_len}
+use Rattle.std.specs.List.{suffix_len}
 use Rattle.std.specs.Str.{IsUtf8, IsCharBoundary}
 use Rattle.std.specs.Str.Parse.{ParsesUnsigned, digits_value}
 use Rattle.std.proofs.lemmas.Bool.Decides.{nat_tests}
 use Rattle.std.proofs.lemmas.List.Sums.{prefix_len_is, prefix_len_passes, prefix_len-le-length, suffix_len_is}
 use Rattle.std.proofs.lemmas.Str.{IsCharBoundary-start, IsCharBoundary-after_ascii}
 use Rattle.std.proofs.lemmas.Str.Parse.{IsNumeralModel, numerals_by_value, tells_by_index, parse_gives}
-use Rattle.traverse_names.specs.Uid.{underscores, digits_start, postfix_of, as_postfix, largest}
+use Rattle.traverse_names.specs.Uid.{underscores, digits_start, postfix_of, as_postfix}
 
 pub count_is : (bs : List ℕ) (n : ℕ) → n ≤ length bs → ((k : ℕ) → k < n → get_or bs k 0 ≡ 95) → (n < length bs → get_or bs n 0 ≢ 95) → n ≡ underscores bs
 count_is bs n within passed stops =
@@ -36,16 +36,16 @@ behind_underscores bs n u e =
 pub before_digits : (bs : List ℕ) (n : ℕ) → n ≤ length bs → ((k : ℕ) → n ≤ k → k < length bs → IsInRange 48 57 (get_or bs k 0)) → IsCharBoundary bs n
 before_digits bs n within passed = (within, λ l high. let r = passed n (omega arith) l in absurd (omega arith))
 
-abbrev AllAt : List ℕ → Type 0
+abbrev pub AllAt : List ℕ → Type 0
 AllAt ds = (i : ℕ) → i < length ds → IsInRange 48 57 (get_or ds i 0)
 
-by_index : IsNumeralModel AllAt (digits_value 10)
+pub by_index : IsNumeralModel AllAt (digits_value 10)
 by_index = numerals_by_value AllAt tells_by_index
 
 as_postfix_large : (n : ℕ) → 2 ^ 32 ≤ n → as_postfix n ≡ None
 as_postfix_large n h = grind (arith, nat_tests)
 
-postfix_at : (bs : List ℕ) → 0 < length bs → get_or bs 0 0 ≢ 48 → postfix_of bs ≡ as_postfix (digits_value 10 bs)
+pub postfix_at : (bs : List ℕ) → 0 < length bs → get_or bs 0 0 ≢ 48 → postfix_of bs ≡ as_postfix (digits_value 10 bs)
 postfix_at [] nonempty first = absurd (omega arith)
 postfix_at (c ∷ cs) nonempty first = grind (arith, nat_tests)
 

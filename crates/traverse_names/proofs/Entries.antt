@@ -1,12 +1,11 @@
 -- What a look-up, an insertion and a replaced value in the entries of a generator's map mean for what is kept.
-use Rattle.std.proofs.Common.{◌≡◌, ℕ, Bool, true, false, cond, List, [], ◌∷◌, map, Option, None, Some, Ordering, refl, sym, ap, ◌∙◌, arith}
-use Rattle.std.specs.Bool.{⊤}
+use Rattle.std.proofs.Common.{◌≡◌, Bool, true, false, cond, List, [], ◌∷◌, map, Some, Ordering, refl, sym, ap, ◌∙◌}
 use Rattle.std.specs.declared.cmp.Ordering.TheVariants.{Less, Equal, Greater}
 use Rattle.std.specs.BTreeMap.{insert_entry, is_at}
 use Rattle.std.specs.Map.{lookup, set_value}
 use Rattle.std.specs.Option.{option_map}
 use Rattle.std.specs.Ordering.{nat_cmp, eq_by_cmp, is_eq, match_ordering}
-use Rattle.std.specs.Cmp.{IsTotalOrder, alike_right}
+use Rattle.std.specs.Cmp.{alike_right}
 use Rattle.std.specs.Cmp.Lexicographic.{slice_cmp, nat_list_cmp_total}
 use Rattle.std.specs.FinMap as finite
 use Rattle.std.specs.FinMap.{find, put, IsAntisymmetric, slice_cmp-IsAntisymmetric, nat_cmp-IsAntisymmetric, same_map, get-from_entries, get-insert}
@@ -16,10 +15,10 @@ use Rattle.traverse_names.specs.Uid.{Text, Pair, Names}
 use Rattle.traverse_names.specs.Kept.{kept, pair_of}
 use Rattle.traverse_names.specs.declared.uid.Kept.{Kept}
 
-abbrev texts : Text → Text → Ordering
+abbrev pub texts : Text → Text → Ordering
 texts = slice_cmp nat_cmp
 
-antisymmetric : IsAntisymmetric texts
+pub antisymmetric : IsAntisymmetric texts
 antisymmetric = slice_cmp-IsAntisymmetric nat_cmp-IsAntisymmetric
 
 pub same_names : (m n : Names) → ((q : Text) → finite.get m q ≡ finite.get n q) → m ≡ n
@@ -34,7 +33,7 @@ swapped true true x y z apart = absurd (apart refl refl)
 swapped true false x y z apart = refl
 swapped false b x y z apart = refl
 
-tied : (r : Ordering) → is_eq r ≡ true → r ≡ Equal
+pub tied : (r : Ordering) → is_eq r ≡ true → r ≡ Equal
 tied Less e = cc
 tied Equal e = refl
 tied Greater e = cc
@@ -70,8 +69,8 @@ module _ {K : Type 0} (text : K → Text) where
   pub kept-insert : (es : List (K × Kept)) (k : K) (v : Kept) → kept text (insert_entry (λ x y. texts (text x) (text y)) es k v) ≡ finite.insert (kept text es) (text k) (pair_of v)
   kept-insert es k v =
       same_names _ _ (λ q. get-from_entries nat_list_cmp_total _ q ∙ ap (find texts q) (seen-insert_entry es k v)
-        ∙ find-put texts nat_list_cmp_total q (text k) (pair_of v) (seen es)
-        ∙ sym (get-insert nat_list_cmp_total _ (text k) (pair_of v) q ∙ ap (cond (eq_by_cmp texts q (text k)) (Some (pair_of v))) (get-from_entries nat_list_cmp_total (seen es) q)))
+      ∙ find-put texts nat_list_cmp_total q (text k) (pair_of v) (seen es)
+      ∙ sym (get-insert nat_list_cmp_total _ (text k) (pair_of v) q ∙ ap (cond (eq_by_cmp texts q (text k)) (Some (pair_of v))) (get-from_entries nat_list_cmp_total (seen es) q)))
 
   find-set_value : (es : List (K × Kept)) (k q : Text) (old w : Kept) → lookup (tests k) es ≡ Some old → find texts q (seen (set_value (tests k) es w)) ≡ cond (eq_by_cmp texts q k) (Some (pair_of w)) (find texts q (seen es))
   find-set_value [] k q old w h = cc
@@ -86,4 +85,4 @@ module _ {K : Type 0} (text : K → Text) where
   pub kept-set_value : (es : List (K × Kept)) (k : Text) (old w : Kept) → lookup (tests k) es ≡ Some old → kept text (set_value (tests k) es w) ≡ finite.insert (kept text es) k (pair_of w)
   kept-set_value es k old w h =
       same_names _ _ (λ q. get-from_entries nat_list_cmp_total _ q ∙ find-set_value es k q old w h
-        ∙ sym (get-insert nat_list_cmp_total _ k (pair_of w) q ∙ ap (cond (eq_by_cmp texts q k) (Some (pair_of w))) (get-from_entries nat_list_cmp_total (seen es) q)))
+      ∙ sym (get-insert nat_list_cmp_total _ k (pair_of w) q ∙ ap (cond (eq_by_cmp texts q k) (Some (pair_of w))) (get-from_entries nat_list_cmp_total (seen es) q)))

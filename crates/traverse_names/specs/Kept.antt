@@ -1,5 +1,5 @@
 -- What the entries of a generator's map stand for.
-use Rattle.std.specs.Prelude.{ℕ, List, map}
+use Rattle.std.specs.Prelude.{List, map}
 use Rattle.std.specs.FinMap.{from_entries}
 use Rattle.traverse_names.specs.Uid.{Text, Pair, Names}
 use Rattle.traverse_names.specs.declared.uid.Kept.{Kept}

@@ -1,7 +1,7 @@
 -- Unique names, as they are drawn for new bindings: `_` and a base, with more underscores and a number where names
 -- of that base are taken. A text is its bytes in UTF-8.
-use Rattle.std.specs.Prelude.{◌≡◌, ℕ, ◌+◌, ◌-◌, ◌≤◌, List, [], ◌∷◌, ◌++◌, length, take, drop, replicate, Option, None, Some, Bool, true, ◌&&◌, ◌||◌, if◌then◌else◌, ◌==◌, nat_lt, nat_le, decimal}
-use Rattle.std.specs.List.{prefix_len, suffix_len, fold}
+use Rattle.std.specs.Prelude.{◌≡◌, ℕ, ◌+◌, ◌-◌, ◌≤◌, List, [], ◌∷◌, ◌++◌, length, take, drop, replicate, Option, None, Some, Bool, true, false, ◌&&◌, ◌||◌, if◌then◌else◌, ◌==◌, nat_lt, nat_le, decimal}
+use Rattle.std.specs.List.{Contains, prefix_len, suffix_len, fold}
 use Rattle.std.specs.Char.{is_ascii_digit}
 use Rattle.std.specs.Str.Parse.{digits_value}
 use Rattle.std.specs.Ordering.{nat_cmp}
@@ -100,3 +100,20 @@ abbrev pub next_pair : Option Pair → Option Pair
 next_pair None = Some (1, 1)
 next_pair (Some p) =
     if nat_lt p.1 largest then Some (p.0, p.1 + 1) else (if nat_lt p.0 largest then Some (p.0 + 1, 2) else None)
+
+-- What may be kept after the names seen, which were catalogued or drawn.
+pub data Seen : Names → List Text → Type 0 where
+  unseen : Seen map.empty []
+  named : {kept : Names} {names : List Text} (name : Text) → Seen kept names → Seen (catalogued kept name) (name ∷ names)
+  raised : {kept : Names} {names : List Text} (base : Text) (pair : Pair) → 1 ≤ pair.0 → 1 ≤ pair.1 → Seen kept names → Seen (keep kept base pair) names
+  drawn : {kept : Names} {names : List Text} (base : Text) (pair : Pair) → IsBase base → next_pair (map.get kept base) ≡ Some pair → Seen kept names → Seen (map.insert kept base pair) (name_of base pair ∷ names)
+
+-- The greatest pair with which one of the names counts for the base.
+pub record IsLast (names : List Text) (base : Text) (pair : Pair) : Type 0 where
+  pub counts : (name : Text) × Contains names name × Counts name base pair
+  pub greatest : (name : Text) (other : Pair) → Contains names name → Counts name base other → is_below pair other ≡ false
+
+-- what is kept for the base is that pair, and nothing where no name counts for it
+abbrev pub IsCatalogued : List Text → Text → Option Pair → Type 0
+IsCatalogued names base None = (name : Text) (pair : Pair) → Contains names name → Counts name base pair → ⊥
+IsCatalogued names base (Some pair) = IsLast names base pair

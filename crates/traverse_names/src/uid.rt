@@ -94,12 +94,7 @@ impl UidGenerator {
     }
 
     /// Takes a name of this base, with this many underscores and this postfix, into account.
-    pub fn add_pair(
-        &mut self,
-        base: &str,
-        underscores: u32,
-        postfix: u32,
-    ) -> Result<(), AllocError>
+    pub fn add_pair(&mut self, base: &str, underscores: u32, postfix: u32) -> Result<(), AllocError>
         requires underscored { 1 ≤ underscores }
         requires numbered { 1 ≤ postfix }
         ensures kept { OnOk result (self.new ≡ keep self.old base.now (underscores, postfix)) }

@@ -1,4 +1,4 @@
-use Rattle.std.proofs.Common.{◌≡◌, ℕ, ◌≤◌, ◌<◌, length, get_or}
+use Rattle.std.proofs.Common.{ℕ, ◌≤◌, ◌<◌, length, get_or}
 use Rattle.std.specs.Int.{IsInRange}
 use Rattle.traverse_names.proofs.uid_text.find_digits.Given as goal
 

@@ -1,5 +1,4 @@
-use Rattle.std.proofs.Common.{rules, arith, ◌≡◌, ◌≢◌, ◌<◌, length, get_or, Err}
-use Rattle.std.specs.Str.Parse.{ParsesUnsigned}
+use Rattle.std.proofs.Common.{arith, ◌≢◌, ◌<◌, length, get_or}
 use Rattle.traverse_names.proofs.Cut.{unread}
 use Rattle.traverse_names.proofs.uid_text.read_postfix.Goals as goal
 
