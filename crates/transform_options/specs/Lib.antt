@@ -1,0 +1,4 @@
+pub mod Parts
+pub mod Switches
+pub mod Plain
+pub mod Babel

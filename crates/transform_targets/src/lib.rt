@@ -1,0 +1,16 @@
+//! What code is lowered for: editions and engines with their versions, and the features that they have or lack.
+#![tactic(auto)]
+
+mod engine;
+mod engine_targets;
+mod es_target;
+mod feature;
+mod feature_table;
+mod version;
+
+pub use engine::Engine;
+pub use engine_targets::EngineTargets;
+pub use es_target::ESTarget;
+pub use feature::ESFeature;
+pub use feature_table::{FeatureTable, Support};
+pub use version::Version;

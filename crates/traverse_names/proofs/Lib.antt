@@ -1,0 +1,5 @@
+mod Catalogue
+mod Counting
+mod Cut
+mod Entries
+mod Fresh
