@@ -1,5 +1,6 @@
 -- The patterns of regular expressions and the forms that occur in them, over lists of characters. A relation leads from
 -- a text to the rest behind what stands at its front, and from the forms found before to those found behind it.
+-- The codes: `!` 33, `(` 40, `)` 41, `-` 45, `:` 58, `<` 60, `=` 61, `>` 62, `?` 63, `[` 91, `\` 92, `]` 93, `{` 123, `}` 125.
 use Rattle.std.specs.Prelude.{◌≡◌, ℕ, List, [], ◌∷◌, ◌++◌, Bool, true, false, not, ◌&&◌, ◌||◌, nat_eq, nat_lt, bit_and}
 use Rattle.std.specs.List.{list_all}
 use Rattle.js_chars.specs.Names.{is_identifier_name}
