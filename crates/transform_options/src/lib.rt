@@ -16,6 +16,8 @@ mod options;
 mod plugins;
 mod proposals;
 mod regexp;
+#[cfg(test)]
+mod tests;
 
 pub use common::helper_loader::HelperLoaderMode;
 pub use es2015::ES2015Options;

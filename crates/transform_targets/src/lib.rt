@@ -6,6 +6,8 @@ mod engine_targets;
 mod es_target;
 mod feature;
 mod feature_table;
+#[cfg(test)]
+mod tests;
 mod version;
 
 pub use engine::Engine;
