@@ -11,7 +11,7 @@ use Rattle.js_pattern.specs.declared.pattern.Mode.{Mode}
 use Rattle.js_pattern.specs.declared.scanner.Scanner.{Scanner}
 use Rattle.js_pattern.specs.declared.scanner.Place.{Place}
 use Rattle.js_pattern.specs.declared.scanner.Place.TheVariants.{Between, Backslash, Property, PropertyBrace, PropertyName, Paren, Question, Letters, LettersOff, Angle, GroupName}
-use Rattle.js_pattern.proofs.Tests.{not_true, left_of, right_of, neither, never, when_true, when_false, either_way, apart, positive, less_one, greater_ends, equals_begins_none, bang_begins_none}
+use Rattle.js_pattern.proofs.Choices.{not_true, left_of, right_of, neither, never, when_true, when_false, either_way, apart, positive, less_one, greater_ends, equals_begins_none, bang_begins_none}
 
 abbrev at : ℕ → ℕ → Place → Forms → Scanner
 at d k place x = record { groups = d; classes = k; place = place; forms = x }

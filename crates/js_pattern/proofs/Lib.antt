@@ -1,5 +1,5 @@
 mod Turn
-mod Tests
+mod Choices
 mod Complete
 mod Sound
 mod Reading

@@ -12,7 +12,7 @@ use Rattle.js_pattern.specs.declared.pattern.Forms.{Forms}
 use Rattle.js_pattern.specs.declared.pattern.Mode.{Mode}
 use Rattle.js_pattern.specs.declared.scanner.Scanner.{Scanner}
 use Rattle.js_pattern.specs.declared.scanner.Place.{Place}
-use Rattle.js_pattern.proofs.Tests.{both, all_false, none_of, left_of, right_of, suc_less_one}
+use Rattle.js_pattern.proofs.Choices.{both, all_false, none_of, left_of, right_of, suc_less_one}
 use Rattle.js_pattern.specs.declared.scanner.Place.TheVariants.{Between, Backslash, Property, PropertyBrace, PropertyName, Paren, Question, Letters, LettersOff, Angle, GroupName}
 
 abbrev at : ℕ → ℕ → Place → Forms → Scanner
