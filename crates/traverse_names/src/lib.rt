@@ -1,12 +1,14 @@
 //! Names for new bindings: unique identifiers, and texts turned into identifier names.
 #![tactic(auto)]
 
+mod gather;
 mod identifier;
 mod joined;
 mod laws;
 mod uid;
 mod uid_text;
 
+pub use gather::GatherNodeParts;
 pub use identifier::to_identifier;
 pub use joined::JoinedParts;
 pub use laws::{
