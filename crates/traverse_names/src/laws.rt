@@ -1,8 +1,10 @@
 //! Laws over the definitions; the functions do nothing.
 
-ghost use Rattle.std.specs.Prelude.{◌≡◌, ◌≤◌, ◌↔◌, List, Some, true, false};
+ghost use Rattle.std.specs.Prelude.{◌≡◌, ◌≤◌, ◌↔◌, ℕ, List, ◌∷◌, Some, true, false};
 ghost use Rattle.std.specs.FinMap as map;
 ghost use Rattle.std.specs.List.{Contains};
+ghost use Rattle.js_chars.specs.Names.{is_identifier_name};
+ghost use Rattle.traverse_names.specs.Identifier.{identifier_of, name_of_parts, size};
 ghost use Rattle.traverse_names.specs.Uid.{Text, Pair, Names, IsBase, Counts, Seen, IsCatalogued, base_of, counted, catalogue, keep, is_news, next_pair, name_of};
 
 /// A name counts for one base with one pair at most, and `counted` finds them.
@@ -32,4 +34,15 @@ pub fn pairs_grow()
 #[tactic(auto, using(crate::proofs::Catalogue::catalogue_keeps_last))]
 pub fn catalogue_keeps_last()
     ensures { (names : List Text) (base : Text) → IsCatalogued names base (map.get (catalogue names) base) }
+{}
+
+/// An identifier name stays as it is, and of any text `_` and what is made of it are an identifier name.
+pub fn identifiers_are_names()
+    ensures stays { (cs : List ℕ) → is_identifier_name cs ≡ true → identifier_of cs ≡ cs }
+    ensures named { (cs : List ℕ) → is_identifier_name (95 ∷ identifier_of cs) ≡ true }
+{}
+
+/// The name of a node's parts has 1 to 20 bytes, whatever the parts are, and `_` before it is an identifier name.
+pub fn node_names_are_short()
+    ensures { (parts : List (List ℕ)) → (1 ≤ size (name_of_parts parts)) × (size (name_of_parts parts) ≤ 20) × (is_identifier_name (95 ∷ name_of_parts parts) ≡ true) }
 {}

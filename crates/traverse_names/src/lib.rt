@@ -1,11 +1,18 @@
 //! Names for new bindings: unique identifiers, and texts turned into identifier names.
 #![tactic(auto)]
 
+mod gather;
+mod identifier;
+mod joined;
 mod laws;
 mod uid;
 mod uid_text;
 
+pub use gather::GatherNodeParts;
+pub use identifier::to_identifier;
+pub use joined::JoinedParts;
 pub use laws::{
-    catalogue_keeps_last, drawn_for_a_base, drawn_name_is_new, names_count_once, pairs_grow,
+    catalogue_keeps_last, drawn_for_a_base, drawn_name_is_new, identifiers_are_names,
+    names_count_once, node_names_are_short, pairs_grow,
 };
 pub use uid::{UidFault, UidGenerator};
