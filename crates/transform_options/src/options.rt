@@ -1,10 +1,11 @@
 ghost use Rattle.std.specs.Prelude.{◌≡◌, ◌++◌, false, nat_lt, IfOk, IfErr, None};
 ghost use Rattle.transform_options.specs.Babel as babel;
-ghost use Rattle.transform_options.specs.Plain.{IsPlain};
+ghost use Rattle.transform_options.specs.Plain.{IsPlain, IsFor};
 ghost use Rattle.transform_options.specs.Switches as spec;
 ghost use Rattle.transform_options.specs.declared.options.module.Module.TheVariants.{Preserve};
 ghost use Rattle.transform_targets.specs.Features.{year};
 ghost use Rattle.transform_targets.specs.Targets.{edition_year};
+ghost use Rattle.transform_targets.specs.Words.{targets_of, words_of, IsFaultOf};
 
 pub(crate) mod babel;
 pub(crate) mod env;
@@ -15,7 +16,8 @@ use crate::choice::Choice;
 use crate::common::helper_loader::HelperLoaderMode;
 use env::EnvOptions;
 use js_ident::Ident;
-use transform_targets::{ESFeature, ESTarget};
+use std::alloc::Global;
+use transform_targets::{ESFeature, ESTarget, FeatureTable, TargetFault};
 
 /// What a transformer does.
 #[derive(Debug, Clone, Drop)]
@@ -53,6 +55,34 @@ impl TransformOptions {
         ensures rest { IsPlain result }
     {
         TransformOptions::plain(EnvOptions::by(&Later { target }))
+    }
+}
+
+impl TransformOptions {
+    /// What some of the targets that the text names lacks; commas stand between the words.
+    pub fn from_target(
+        alloc: Global,
+        text: &str,
+        table: &FeatureTable,
+    ) -> Result<TransformOptions, TargetFault>
+        ensures made { IfOk result (λ options. IsFor (targets_of (words_of text.now)) table.now options.env × IsPlain options) }
+        ensures refused { IfErr result (IsFaultOf (targets_of (words_of text.now))) }
+    {
+        let env = EnvOptions::from_target(alloc, text, table)?;
+        Ok(TransformOptions::plain(env))
+    }
+
+    /// What some of the targets that the words name lacks.
+    pub fn from_target_list(
+        alloc: Global,
+        list: &[Ident],
+        table: &FeatureTable,
+    ) -> Result<TransformOptions, TargetFault>
+        ensures made { IfOk result (λ options. IsFor (targets_of list.now) table.now options.env × IsPlain options) }
+        ensures refused { IfErr result (IsFaultOf (targets_of list.now)) }
+    {
+        let env = EnvOptions::from_target_list(alloc, list, table)?;
+        Ok(TransformOptions::plain(env))
     }
 }
 

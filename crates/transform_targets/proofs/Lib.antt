@@ -1,0 +1,4 @@
+mod Cuts
+mod Fronts
+mod Pieces
+mod Values

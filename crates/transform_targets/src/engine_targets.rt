@@ -1,8 +1,11 @@
-ghost use Rattle.std.specs.Prelude.{◌≡◌, IsOk};
+ghost use Rattle.std.specs.Prelude.{◌≡◌, IsOk, IfOk, IfErr, OnOk, Ok};
 ghost use Rattle.transform_targets.specs.Features as features;
 ghost use Rattle.transform_targets.specs.Targets as spec;
+ghost use Rattle.transform_targets.specs.Words as words;
 
-use crate::{ESFeature, Engine, FeatureTable, Version};
+use crate::words::{cut_at, target_of, trim};
+use crate::{ESFeature, Engine, FeatureTable, TargetFault, Version};
+use js_ident::Ident;
 use std::alloc::{AllocError, Global};
 
 /// One version for each engine that is a target.
@@ -134,5 +137,50 @@ fn is_lacking(engine: Engine, version: Version, feature: ESFeature, table: &Feat
             Some(since) => version.is_below(since),
             None => true,
         },
+    }
+}
+
+impl EngineTargets {
+    /// The targets that the words of this text name; commas stand between them.
+    pub fn from_target(alloc: Global, text: &str) -> Result<EngineTargets, TargetFault>
+        ensures made { IfOk result (λ targets. words.targets_of (words.words_of text.now) ≡ Ok targets) }
+        ensures refused { IfErr result (words.IsFaultOf (words.targets_of (words.words_of text.now))) }
+    {
+        let mut targets = EngineTargets::new(alloc);
+        let mut rest = text;
+        while let Some((word, more)) = cut_at(',', rest) {
+            targets.enter(alloc, word)?;
+            rest = more;
+        }
+        targets.enter(alloc, rest)?;
+        Ok(targets)
+    }
+
+    /// The targets that these words name.
+    pub fn from_target_list(alloc: Global, list: &[Ident]) -> Result<EngineTargets, TargetFault>
+        ensures made { IfOk result (λ targets. words.targets_of list.now ≡ Ok targets) }
+        ensures refused { IfErr result (words.IsFaultOf (words.targets_of list.now)) }
+    {
+        let mut targets = EngineTargets::new(alloc);
+        for word in list {
+            targets.enter(alloc, word.as_str())?;
+        }
+        Ok(targets)
+    }
+
+    // Adds the target that a word names.
+    #[tactic(auto, unfolding(crate::specs::Words::with_word))]
+    fn enter(&mut self, alloc: Global, text: &str) -> Result<(), TargetFault>
+        ensures made { OnOk result (words.with_word text.now self.old ≡ Ok self.new) }
+        ensures refused { IfErr result (words.IsFaultOf (words.with_word text.now self.old)) }
+    {
+        let word = trim(text);
+        let target = target_of(alloc, word)?;
+        if self.get(target.engine).is_some() {
+            let word = Ident::new(alloc, word)?;
+            return Err(TargetFault::Duplicate { word });
+        }
+        self.insert(target.engine, target.version)?;
+        Ok(())
     }
 }

@@ -6,13 +6,16 @@ mod engine_targets;
 mod es_target;
 mod feature;
 mod feature_table;
+mod target_fault;
 #[cfg(test)]
 mod tests;
 mod version;
+mod words;
 
 pub use engine::Engine;
 pub use engine_targets::EngineTargets;
 pub use es_target::ESTarget;
 pub use feature::ESFeature;
 pub use feature_table::{FeatureTable, Support};
+pub use target_fault::TargetFault;
 pub use version::Version;

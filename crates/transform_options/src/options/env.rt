@@ -1,6 +1,8 @@
-ghost use Rattle.std.specs.Prelude.{◌≡◌, false};
+ghost use Rattle.std.specs.Prelude.{◌≡◌, false, IfOk, IfErr};
+ghost use Rattle.transform_options.specs.Plain.{IsFor};
 ghost use Rattle.transform_options.specs.Switches as spec;
 ghost use Rattle.transform_targets.specs.Targets.{has_feature};
+ghost use Rattle.transform_targets.specs.Words.{targets_of, words_of, IsFaultOf};
 
 use crate::choice::Choice;
 use crate::es2015::ES2015Options;
@@ -15,7 +17,9 @@ use crate::es2026::ES2026Options;
 use crate::options::babel::env::BabelEnvOptions;
 use crate::options::module::Module;
 use crate::regexp::RegExpOptions;
-use transform_targets::{ESFeature, EngineTargets, FeatureTable};
+use js_ident::Ident;
+use std::alloc::Global;
+use transform_targets::{ESFeature, EngineTargets, FeatureTable, TargetFault};
 
 /// What is lowered, by the edition that brought it.
 #[derive(Debug, Clone, Copy)]
@@ -79,6 +83,34 @@ impl EnvOptions {
         ensures preserved { result.module ≡ Module.Preserve }
     {
         EnvOptions::from_engine_targets(&env.targets, table)
+    }
+}
+
+impl EnvOptions {
+    /// What some of the targets that the text names lacks; commas stand between the words.
+    pub fn from_target(
+        alloc: Global,
+        text: &str,
+        table: &FeatureTable,
+    ) -> Result<EnvOptions, TargetFault>
+        ensures made { IfOk result (IsFor (targets_of (words_of text.now)) table.now) }
+        ensures refused { IfErr result (IsFaultOf (targets_of (words_of text.now))) }
+    {
+        let targets = EngineTargets::from_target(alloc, text)?;
+        Ok(EnvOptions::from_engine_targets(&targets, table))
+    }
+
+    /// What some of the targets that the words name lacks.
+    pub fn from_target_list(
+        alloc: Global,
+        list: &[Ident],
+        table: &FeatureTable,
+    ) -> Result<EnvOptions, TargetFault>
+        ensures made { IfOk result (IsFor (targets_of list.now) table.now) }
+        ensures refused { IfErr result (IsFaultOf (targets_of list.now)) }
+    {
+        let targets = EngineTargets::from_target_list(alloc, list)?;
+        Ok(EnvOptions::from_engine_targets(&targets, table))
     }
 }
 
