@@ -1,6 +1,4 @@
-use crate::{
-    BabelOptions, BabelPlugins, BabelPresets, EnvOptions, OptionsFault, TransformOptions,
-};
+use crate::{BabelOptions, BabelPlugins, BabelPresets, EnvOptions, OptionsFault, TransformOptions};
 use js_ident::Ident;
 use std::alloc::Global;
 use std::process::Abort;

@@ -78,7 +78,10 @@ fn the_last_row_decides(rt: HostRuntime) -> Result<(), Fail> {
     let mut table = FeatureTable::new(alloc);
     table.set(feature, Engine::Chrome, version(80))?;
     table.set(feature, Engine::Chrome, version(91))?;
-    assert_eq!(rt; numbers(table.get(feature, Engine::Chrome)), Some((91, 0, 0)));
+    assert_eq!(rt;
+        numbers(table.get(feature, Engine::Chrome)),
+        Some((91, 0, 0))
+    );
     assert_eq!(rt; numbers(table.get(feature, Engine::Ie)), None);
     let mut targets = EngineTargets::new(alloc);
     assert!(rt; !targets.has_feature(feature, &table));
