@@ -5,6 +5,8 @@ mod gather;
 mod identifier;
 mod joined;
 mod laws;
+#[cfg(test)]
+mod tests;
 mod uid;
 mod uid_text;
 
