@@ -1,4 +1,4 @@
-use crate::{GatherNodeParts, JoinedParts, UidFault, UidGenerator, to_identifier};
+use crate::{JoinedParts, UidFault, UidGenerator, get_var_name_from_node, to_identifier};
 use js_ident::Ident;
 use js_tree::{IdentifierName, Span};
 use std::alloc::Global;
@@ -144,14 +144,19 @@ fn parts_are_joined(rt: HostRuntime) -> Result<(), Fail> {
 }
 
 #[test]
-fn a_name_has_itself_as_its_part(rt: HostRuntime) -> Result<(), Fail> {
-    let name = Ident::new(rt.alloc(), "foo")?;
-    let node = IdentifierName {
-        span: Span { start: 0, end: 3 },
-        name,
-    };
-    let mut length = 0;
-    node.gather(&mut |part: &str| length = part.len());
-    assert_eq!(rt; length, 3);
+fn a_node_is_named_by_its_parts(rt: HostRuntime) -> Result<(), Fail> {
+    let table = [
+        ("___abcdefghijklmnopqrstu", "abcdefghijklmnopqrst"),
+        ("xαβγδεζηθικ", "xαβγδεζηθι"),
+        ("___", "ref"),
+    ];
+    for (text, wanted) in table {
+        let node = IdentifierName {
+            span: Span { start: 0, end: 0 },
+            name: Ident::new(rt.alloc(), text)?,
+        };
+        let name = get_var_name_from_node(rt.alloc(), &node)?;
+        assert_eq!(rt; name.as_str(), wanted);
+    }
     Ok(())
 }
