@@ -53,3 +53,6 @@ pub unread : {E : Type 0} (bs : List ℕ) (e : E) → AllAt bs → 0 < length bs
 unread bs e digits nonempty first parsed =
     let large : digits_value 10 bs < 2 ^ 32 → ⊥ = λ small. let ok = parse_gives by_index 32 bs (Err e) parsed digits nonempty small in cc in
     sym (postfix_at bs nonempty first ∙ as_postfix_large (digits_value 10 bs) (omega arith))
+
+pub few_underscores : (bs : List ℕ) → underscores bs ≤ length bs
+few_underscores bs = prefix_len-le-length (λ c. eqb c 95) bs

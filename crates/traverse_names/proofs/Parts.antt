@@ -1,6 +1,8 @@
 -- The steps of the loops that keep characters.
-use Rattle.std.proofs.Common.{◌≡◌, ℕ, ◌+◌, ◌-◌, ◌<◌, ◌≤◌, Bool, true, false, not, leb, ltb, cond, List, [], ◌∷◌, ◌++◌, length, drop, get_or, arith, refl, sym, ap, ◌∙◌}
+use Rattle.std.proofs.Common.{◌≡◌, ℕ, ◌+◌, ◌-◌, ◌<◌, ◌≤◌, Bool, true, false, not, leb, ltb, cond, map, List, [], ◌∷◌, ◌++◌, length, drop, get_or, arith, refl, sym, ap, ◌∙◌}
 use Rattle.std.specs.Char.{to_ascii_uppercase, len_utf8}
+use Rattle.std.specs.List.{fold}
+use Rattle.std.specs.Str.{chars}
 use Rattle.std.proofs.lemmas.Bool.Decides.{nat_tests}
 use Rattle.std.proofs.lemmas.List.{append-nil, append_assoc, at_drop_more, at_drop_all}
 use Rattle.js_chars.specs.Names.{is_identifier_start, is_identifier_part, is_identifier_name}
@@ -120,3 +122,7 @@ joined_full (c ∷ cs) part some full = ap (λ b. cond b ((c ∷ cs) ++ (36 ∷ 
 pub finished_some : (cs : List ℕ) → 0 < length cs → identifier_of cs ≡ finished cs
 finished_some [] some = absurd (omega arith)
 finished_some (c ∷ cs) some = refl
+
+pub joined_push : (name : List ℕ) (parts : List (List ℕ)) (part : List ℕ) → fold joined name (map chars (parts ++ part ∷ [])) ≡ joined (fold joined name (map chars parts)) (chars part)
+joined_push name [] part = refl
+joined_push name (first ∷ parts) part = joined_push (joined name (chars first)) parts part

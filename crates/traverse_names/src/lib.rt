@@ -5,6 +5,9 @@ mod gather;
 mod identifier;
 mod joined;
 mod laws;
+mod node_name;
+#[cfg(test)]
+mod tests;
 mod uid;
 mod uid_text;
 
@@ -15,4 +18,5 @@ pub use laws::{
     catalogue_keeps_last, drawn_for_a_base, drawn_name_is_new, identifiers_are_names,
     names_count_once, node_names_are_short, pairs_grow,
 };
+pub use node_name::get_var_name_from_node;
 pub use uid::{UidFault, UidGenerator};
