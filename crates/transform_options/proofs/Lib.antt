@@ -1,1 +1,3 @@
+mod Entered
+mod Items
 mod Rows

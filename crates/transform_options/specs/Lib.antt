@@ -2,3 +2,5 @@ pub mod Parts
 pub mod Switches
 pub mod Plain
 pub mod Babel
+pub mod PluginParts
+pub mod Plugins

@@ -5,6 +5,8 @@ pub(crate) mod env;
 pub(crate) mod from_babel;
 pub(crate) mod plugins;
 pub(crate) mod presets;
+mod read_plugins;
+mod refusal;
 
 use js_ident::Ident;
 use plugins::BabelPlugins;
