@@ -1,5 +1,6 @@
 use crate::{BabelOptions, BabelPlugins, BabelPresets, EnvOptions, OptionsFault, TransformOptions};
 use js_ident::Ident;
+use serde_json::Value;
 use std::alloc::Global;
 use std::process::Abort;
 use std::test::Fail;
@@ -104,5 +105,43 @@ fn errors_of_babel(rt: HostRuntime) -> Result<(), Fail> {
     };
     assert_eq!(rt; errors.len(), 2);
     assert!(rt; errors.first().is_some_and(|text| text.as_str() == "first"));
+    Ok(())
+}
+
+fn value(alloc: Global, text: &str) -> Result<Value, Fail> {
+    let value = Value::from_slice(alloc, text.as_bytes())?;
+    Ok(value)
+}
+
+#[test]
+fn entries_of_plugins(rt: HostRuntime) -> Result<(), Fail> {
+    let alloc = rt.alloc();
+    let text = r#"["transform-arrow-functions", "other", ["transform-dotall-regex", {}],
+        ["syntax-decorators", {"version": "2023-05"}, "name"]]"#;
+    let plugins = BabelPlugins::from_entries(alloc, &value(alloc, text)?)?;
+    assert!(rt; plugins.arrow_function && plugins.dot_all_flag);
+    assert!(rt; !plugins.class_properties);
+    let version = plugins.syntax_decorators.map(|options| options.version);
+    assert!(rt; version.is_some_and(|version| version.as_str() == "2023-05"));
+    assert_eq!(rt; plugins.unsupported.len(), 1);
+    Ok(())
+}
+
+#[test]
+fn plugins_of_a_wrong_shape(rt: HostRuntime) -> Result<(), Fail> {
+    let alloc = rt.alloc();
+    for text in ["{}", "[1]", r#"["jsx", ["jsx", {}, "a", "b"]]"#] {
+        let Err(OptionsFault::Refused { errors }) = BabelPlugins::from_entries(
+            alloc,
+            &value(alloc, text)?,
+        ) else {
+            return Err(Fail::new(text));
+        };
+        assert!(rt;
+            errors
+                .first()
+                .is_some_and(|error| error.as_str() == "plugins: wrong shape")
+        );
+    }
     Ok(())
 }
