@@ -11,14 +11,14 @@ ghost use Rattle.js_term.specs.Node.{program_of};
 ghost use Rattle.js_read.specs.Gives.{Reads, Gives, Refuses, StopsBy};
 
 use crate::fault::{Halt, ReadFault};
-use crate::names::{binding, expect, expect_word, is_reserved, name, span_from, string};
+use crate::names::{binding, expect, expect_word, name, span_from, string};
 use crate::nodes;
 use crate::statement::{Bodies, declares, statement};
 use js_lex::Tokens;
 use js_small::is_small_by;
 use js_tree::{
     BindingIdentifier, IdentifierName, ImportSpecifier, Items, ModuleExportName, Program, Span,
-    Statement,
+    Statement, is_reserved,
 };
 use std::alloc::Global;
 

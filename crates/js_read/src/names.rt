@@ -1,13 +1,13 @@
 //! Single tokens: names, a string, and what is always spelled one way.
 
 ghost use Rattle.std.specs.Prelude.{◌≡◌};
-ghost use Rattle.js_term.specs.Lexeme.{word, sign, is_reserved};
+ghost use Rattle.js_term.specs.Lexeme.{word, sign};
 ghost use Rattle.js_read.specs.Read as spec;
 ghost use Rattle.js_read.specs.Gives.{Reads};
 
 use crate::fault::Halt;
 use js_lex::{Lexeme, Tokens};
-use js_tree::{BindingIdentifier, Ident, IdentifierName, Span, StringLiteral};
+use js_tree::{BindingIdentifier, Ident, IdentifierName, Span, StringLiteral, is_reserved};
 use std::alloc::Global;
 
 /// From where a node begins to the end of the last token that was passed.
@@ -57,22 +57,6 @@ pub(crate) fn name(alloc: Global, tokens: &mut Tokens<'_>) -> Result<IdentifierN
         span: span_from(start, tokens),
         name,
     })
-}
-
-/// Whether a word is reserved in module code.
-pub(crate) fn is_reserved(name: &str) -> bool
-    ensures { result ≡ is_reserved name.now }
-{
-    match name {
-        "break" | "case" | "catch" | "class" | "const" | "continue" | "debugger" => true,
-        "default" | "delete" | "do" | "else" | "enum" | "export" | "extends" | "false" => true,
-        "finally" | "for" | "function" | "if" | "import" | "in" | "instanceof" | "new" => true,
-        "null" | "return" | "super" | "switch" | "this" | "throw" | "true" | "try" => true,
-        "typeof" | "var" | "void" | "while" | "with" | "let" | "static" | "yield" => true,
-        "await" | "implements" | "interface" | "package" | "private" | "protected" => true,
-        "public" => true,
-        _ => false,
-    }
 }
 
 /// A name that is declared.

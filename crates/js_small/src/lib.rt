@@ -13,4 +13,4 @@ mod words;
 
 pub use small::is_small;
 pub use small_by::is_small_by;
-pub use words::{is_decimal, is_reserved, is_word};
+pub use words::{is_decimal, is_word};

@@ -5,6 +5,8 @@ ghost use Rattle.std.specs.List.{list_all};
 ghost use Rattle.js_term.specs.Form as form;
 ghost use Rattle.js_term.specs.Lexeme as spec;
 
+use js_tree::is_reserved;
+
 fn is_digit(byte: u8) -> bool
     ensures { result ≡ spec.is_digit byte }
 {
@@ -63,22 +65,6 @@ pub fn is_decimal(text: &str) -> bool
         [] => false,
         [byte] => is_digit(*byte),
         [first, rest @ ..] => b'1' <= *first && *first <= b'9' && are_digits(rest),
-    }
-}
-
-/// Whether the word is reserved in module code.
-pub fn is_reserved(text: &str) -> bool
-    ensures { result ≡ spec.is_reserved text.now }
-{
-    match text {
-        "break" | "case" | "catch" | "class" | "const" | "continue" | "debugger" => true,
-        "default" | "delete" | "do" | "else" | "enum" | "export" | "extends" | "false" => true,
-        "finally" | "for" | "function" | "if" | "import" | "in" | "instanceof" | "new" => true,
-        "null" | "return" | "super" | "switch" | "this" | "throw" | "true" | "try" => true,
-        "typeof" | "var" | "void" | "while" | "with" | "let" | "static" | "yield" => true,
-        "await" | "implements" | "interface" | "package" | "private" | "protected" => true,
-        "public" => true,
-        _ => false,
     }
 }
 

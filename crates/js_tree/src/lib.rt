@@ -26,6 +26,9 @@ pub use function::{
 pub use id::{
     BindingIdentifier, IdentifierName, IdentifierReference, ReferenceId, ScopeId, Span, SymbolId,
 };
+pub use js_chars::{
+    RegExpFlags, is_identifier_name, is_identifier_part, is_identifier_start, is_reserved,
+};
 pub use js_ident::Ident;
 pub use js_items::{Boxed, Items};
 pub use module::{

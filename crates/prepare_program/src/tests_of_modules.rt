@@ -64,6 +64,17 @@ fn imports_have_their_names_and_unused_ones_stay(rt: HostRuntime) -> Result<(), 
 }
 
 #[test]
+fn an_exported_function_is_a_getter(rt: HostRuntime) -> Result<(), Fail> {
+    let made = prepares(
+        rt.alloc(),
+        "{\"module\": \"export function f() {}\"}",
+        "{\"deps\":[],\"dynamicDeps\":[],\"module\":\"Object.defineProperty(__vite_ssr_exports__, 'f', { enumerable: true, configurable: true, get() { return f; } });\\nfunction f() {}\\n\"}\n",
+    )?;
+    assert!(rt; made);
+    Ok(())
+}
+
+#[test]
 fn exports_are_getters(rt: HostRuntime) -> Result<(), Fail> {
     let made = prepares(
         rt.alloc(),

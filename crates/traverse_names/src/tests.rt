@@ -35,9 +35,16 @@ fn names_are_drawn_in_turn(rt: HostRuntime) -> Result<(), Fail> {
     expect_drawn(&rt, alloc, &[], &foo)?;
     let without = ["foo", "foo0", "foo1", "foo2", "foo10", "_bar"];
     expect_drawn(&rt, alloc, &without, &foo)?;
-    let zeros = ["_foo0", "_foo1", "__foo0", "____foo1", "_foo01"];
+    let zeros = [
+        "_foo0",
+        "_foo1",
+        "__foo0",
+        "____foo1",
+        "_foo01",
+        "_foo012345",
+        "_foo000000",
+    ];
     expect_drawn(&rt, alloc, &zeros, &foo)?;
-    expect_drawn(&rt, alloc, &["_foo012345", "_foo000000"], &foo)?;
     let same = [
         ("_foo123", "_foo"),
         ("__foo456", "_foo2"),
@@ -120,27 +127,22 @@ fn expect_name(rt: &impl Abort, alloc: Global, parts: &[&str], wanted: &str) -> 
 
 #[test]
 fn parts_are_joined(rt: HostRuntime) -> Result<(), Fail> {
-    let alloc = rt.alloc();
-    expect_name(
-        &rt,
-        alloc,
-        &["___abcdefghijklmnopqrstu"],
-        "abcdefghijklmnopqrst",
-    )?;
-    expect_name(&rt, alloc, &["xαβγδεζηθικ"], "xαβγδεζηθι")?;
-    expect_name(&rt, alloc, &["xx가나다라마바사"], "xx가나다라마바")?;
-    expect_name(&rt, alloc, &["foo", ""], "foo$")?;
-    expect_name(&rt, alloc, &["___", "___"], "ref")?;
-    expect_name(&rt, alloc, &["1foo", "bar"], "Foo$bar")?;
-    expect_name(&rt, alloc, &["foo", "bar qux grep"], "foo$barQuxGrep")?;
-    expect_name(&rt, alloc, &["ab", "αβγδεζηθικ"], "ab$αβγδεζηθ")?;
-    expect_name(
-        &rt,
-        alloc,
-        &["abcdefghijklmnopqrs", "x"],
-        "abcdefghijklmnopqrs$",
-    )?;
-    expect_name(&rt, alloc, &["_foo", "_bar"], "foo$_bar")
+    let table: [(&[&str], &str); 10] = [
+        (&["___abcdefghijklmnopqrstu"], "abcdefghijklmnopqrst"),
+        (&["xαβγδεζηθικ"], "xαβγδεζηθι"),
+        (&["xx가나다라마바사"], "xx가나다라마바"),
+        (&["foo", ""], "foo$"),
+        (&["___", "___"], "ref"),
+        (&["1foo", "bar"], "Foo$bar"),
+        (&["foo", "bar qux grep"], "foo$barQuxGrep"),
+        (&["ab", "αβγδεζηθικ"], "ab$αβγδεζηθ"),
+        (&["abcdefghijklmnopqrs", "x"], "abcdefghijklmnopqrs$"),
+        (&["_foo", "_bar"], "foo$_bar"),
+    ];
+    for (parts, wanted) in table {
+        expect_name(&rt, rt.alloc(), parts, wanted)?;
+    }
+    Ok(())
 }
 
 #[test]
@@ -148,6 +150,7 @@ fn a_node_is_named_by_its_parts(rt: HostRuntime) -> Result<(), Fail> {
     let table = [
         ("___abcdefghijklmnopqrstu", "abcdefghijklmnopqrst"),
         ("xαβγδεζηθικ", "xαβγδεζηθι"),
+        ("xx가나다라마바사", "xx가나다라마바"),
         ("___", "ref"),
     ];
     for (text, wanted) in table {
