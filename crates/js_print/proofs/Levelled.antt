@@ -4,24 +4,24 @@ use Rattle.std.proofs.lemmas.Bool.{le-ltb}
 use Rattle.std.specs.Prelude.{codes, option_map}
 use Rattle.js_term.specs.Term.{Text, Kind, Term, node, Terms, more, two, maybe, flag}
 use Rattle.js_term.specs.Spells.{level, is_string_literal}
-use Rattle.js_tree.specs.TermOf.{expression_term, statement_term, binding_term, parameters_term, body_term, function_word}
-use Rattle.js_tree.proofs.Levels.{e_BooleanLiteral, e_NumericLiteral, e_StringLiteral, e_Identifier, e_ArrayExpression, e_AwaitExpression, e_CallExpression, e_FunctionExpression, e_ObjectExpression, e_ParenthesizedExpression, e_SequenceExpression, e_StaticMemberExpression, function_parts}
-use Rattle.js_tree.specs.declared.expression.Expression.{Expression}
-use Rattle.js_tree.specs.declared.expression.Expression.TheVariants as expression
-use Rattle.js_tree.specs.declared.expression.BooleanLiteral.{BooleanLiteral}
-use Rattle.js_tree.specs.declared.expression.NumericLiteral.{NumericLiteral}
-use Rattle.js_tree.specs.declared.expression.StringLiteral.{StringLiteral}
-use Rattle.js_tree.specs.declared.id.IdentifierReference.{IdentifierReference}
-use Rattle.js_tree.specs.declared.expression.ArrayExpression.{ArrayExpression}
-use Rattle.js_tree.specs.declared.expression.AwaitExpression.{AwaitExpression}
-use Rattle.js_tree.specs.declared.expression.CallExpression.{CallExpression}
-use Rattle.js_tree.specs.declared.expression.ObjectExpression.{ObjectExpression}
-use Rattle.js_tree.specs.declared.expression.ParenthesizedExpression.{ParenthesizedExpression}
-use Rattle.js_tree.specs.declared.expression.SequenceExpression.{SequenceExpression}
-use Rattle.js_tree.specs.declared.expression.StaticMemberExpression.{StaticMemberExpression}
-use Rattle.js_tree.specs.declared.function.Function.{Function}
-use Rattle.js_tree.specs.declared.function.FunctionKind.{FunctionKind}
-use Rattle.js_tree.specs.declared.function.FunctionKind.TheVariants as function_kind
+use Rattle.small_tree.specs.TermOf.{expression_term, statement_term, binding_term, parameters_term, body_term, function_word}
+use Rattle.small_tree.proofs.Levels.{e_BooleanLiteral, e_NumericLiteral, e_StringLiteral, e_Identifier, e_ArrayExpression, e_AwaitExpression, e_CallExpression, e_FunctionExpression, e_ObjectExpression, e_ParenthesizedExpression, e_SequenceExpression, e_StaticMemberExpression, function_parts}
+use Rattle.small_tree.specs.declared.expression.Expression.{Expression}
+use Rattle.small_tree.specs.declared.expression.Expression.TheVariants as expression
+use Rattle.small_tree.specs.declared.expression.BooleanLiteral.{BooleanLiteral}
+use Rattle.small_tree.specs.declared.expression.NumericLiteral.{NumericLiteral}
+use Rattle.small_tree.specs.declared.expression.StringLiteral.{StringLiteral}
+use Rattle.small_tree.specs.declared.id.IdentifierReference.{IdentifierReference}
+use Rattle.small_tree.specs.declared.expression.ArrayExpression.{ArrayExpression}
+use Rattle.small_tree.specs.declared.expression.AwaitExpression.{AwaitExpression}
+use Rattle.small_tree.specs.declared.expression.CallExpression.{CallExpression}
+use Rattle.small_tree.specs.declared.expression.ObjectExpression.{ObjectExpression}
+use Rattle.small_tree.specs.declared.expression.ParenthesizedExpression.{ParenthesizedExpression}
+use Rattle.small_tree.specs.declared.expression.SequenceExpression.{SequenceExpression}
+use Rattle.small_tree.specs.declared.expression.StaticMemberExpression.{StaticMemberExpression}
+use Rattle.small_tree.specs.declared.function.Function.{Function}
+use Rattle.small_tree.specs.declared.function.FunctionKind.{FunctionKind}
+use Rattle.small_tree.specs.declared.function.FunctionKind.TheVariants as function_kind
 use Rattle.js_print.specs.Layout.{is_looser, is_number, leads, in_parentheses, wrapped, held, needs}
 use Rattle.js_print.proofs.Rows.{held_expression}
 

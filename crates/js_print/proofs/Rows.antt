@@ -4,24 +4,24 @@ use Rattle.std.proofs.lemmas.List.{append-nil, map-append, length-take-le, lengt
 use Rattle.std.specs.Prelude.{codes}
 use Rattle.js_term.specs.Term.{Text, Kind, Term, node, Terms, all}
 use Rattle.js_term.specs.Node.{truth}
-use Rattle.js_tree.specs.TermOf.{expression_term, statement_term, function_term, property_term}
-use Rattle.js_tree.proofs.Levels.{expression_node, statement_node, e_BooleanLiteral, e_NumericLiteral, e_StringLiteral, e_Identifier, e_ArrayExpression, e_AwaitExpression, e_CallExpression, e_FunctionExpression, e_ObjectExpression, e_ParenthesizedExpression, e_SequenceExpression, e_StaticMemberExpression}
-use Rattle.js_tree.specs.declared.expression.Expression.{Expression}
-use Rattle.js_tree.specs.declared.expression.Expression.TheVariants as expression
-use Rattle.js_tree.specs.declared.statement.Statement.{Statement}
-use Rattle.js_tree.specs.declared.expression.BooleanLiteral.{BooleanLiteral}
-use Rattle.js_tree.specs.declared.expression.NumericLiteral.{NumericLiteral}
-use Rattle.js_tree.specs.declared.expression.StringLiteral.{StringLiteral}
-use Rattle.js_tree.specs.declared.id.IdentifierReference.{IdentifierReference}
-use Rattle.js_tree.specs.declared.expression.ArrayExpression.{ArrayExpression}
-use Rattle.js_tree.specs.declared.expression.AwaitExpression.{AwaitExpression}
-use Rattle.js_tree.specs.declared.expression.CallExpression.{CallExpression}
-use Rattle.js_tree.specs.declared.expression.ObjectProperty.{ObjectProperty}
-use Rattle.js_tree.specs.declared.expression.ObjectExpression.{ObjectExpression}
-use Rattle.js_tree.specs.declared.expression.ParenthesizedExpression.{ParenthesizedExpression}
-use Rattle.js_tree.specs.declared.expression.SequenceExpression.{SequenceExpression}
-use Rattle.js_tree.specs.declared.expression.StaticMemberExpression.{StaticMemberExpression}
-use Rattle.js_tree.specs.declared.function.Function.{Function}
+use Rattle.small_tree.specs.TermOf.{expression_term, statement_term, function_term, property_term}
+use Rattle.small_tree.proofs.Levels.{expression_node, statement_node, e_BooleanLiteral, e_NumericLiteral, e_StringLiteral, e_Identifier, e_ArrayExpression, e_AwaitExpression, e_CallExpression, e_FunctionExpression, e_ObjectExpression, e_ParenthesizedExpression, e_SequenceExpression, e_StaticMemberExpression}
+use Rattle.small_tree.specs.declared.expression.Expression.{Expression}
+use Rattle.small_tree.specs.declared.expression.Expression.TheVariants as expression
+use Rattle.small_tree.specs.declared.statement.Statement.{Statement}
+use Rattle.small_tree.specs.declared.expression.BooleanLiteral.{BooleanLiteral}
+use Rattle.small_tree.specs.declared.expression.NumericLiteral.{NumericLiteral}
+use Rattle.small_tree.specs.declared.expression.StringLiteral.{StringLiteral}
+use Rattle.small_tree.specs.declared.id.IdentifierReference.{IdentifierReference}
+use Rattle.small_tree.specs.declared.expression.ArrayExpression.{ArrayExpression}
+use Rattle.small_tree.specs.declared.expression.AwaitExpression.{AwaitExpression}
+use Rattle.small_tree.specs.declared.expression.CallExpression.{CallExpression}
+use Rattle.small_tree.specs.declared.expression.ObjectProperty.{ObjectProperty}
+use Rattle.small_tree.specs.declared.expression.ObjectExpression.{ObjectExpression}
+use Rattle.small_tree.specs.declared.expression.ParenthesizedExpression.{ParenthesizedExpression}
+use Rattle.small_tree.specs.declared.expression.SequenceExpression.{SequenceExpression}
+use Rattle.small_tree.specs.declared.expression.StaticMemberExpression.{StaticMemberExpression}
+use Rattle.small_tree.specs.declared.function.Function.{Function}
 use Rattle.js_print.specs.Parts.{key_start}
 use Rattle.js_print.specs.Layout.{pieces, all_pieces, printed, commas, behind, separated, braces, lines, lead, quoted, is_looser, is_number, needs, no_need, in_parentheses, held, held_kids, wrapped, at_level}
 

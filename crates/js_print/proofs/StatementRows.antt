@@ -3,34 +3,34 @@ use Rattle.std.proofs.Common.{◌≡◌, refl, sym, ◌∙◌, ap, List, [], ◌
 use Rattle.std.specs.Prelude.{codes, option_map}
 use Rattle.js_term.specs.Term.{Text, Kind, Term, absent, list, node, more, one, two, all, maybe, flag}
 use Rattle.js_term.specs.Spells.{is_string_literal}
-use Rattle.js_tree.specs.TermOf.{expression_term, declaration_term, statement_term, function_term, declarator_term, parameter_term, parameters_term, binding_term, pattern_term, body_term, function_word, variable_word, specifier_term, program_term}
-use Rattle.js_tree.proofs.Levels.{d_VariableDeclaration, d_FunctionDeclaration, s_ExpressionStatement, s_ReturnStatement, s_VariableDeclaration, s_FunctionDeclaration, s_ImportDeclaration, s_ExportDeclaration, function_parts, declarator_parts}
-use Rattle.js_tree.specs.declared.expression.Expression.{Expression}
-use Rattle.js_tree.specs.declared.module.Declaration.{Declaration}
-use Rattle.js_tree.specs.declared.module.Declaration.TheVariants as declaration
-use Rattle.js_tree.specs.declared.statement.Statement.{Statement}
-use Rattle.js_tree.specs.declared.statement.Statement.TheVariants as statement
-use Rattle.js_tree.specs.declared.statement.ExpressionStatement.{ExpressionStatement}
-use Rattle.js_tree.specs.declared.statement.ReturnStatement.{ReturnStatement}
-use Rattle.js_tree.specs.declared.statement.VariableDeclaration.{VariableDeclaration}
-use Rattle.js_tree.specs.declared.statement.VariableDeclarator.{VariableDeclarator}
-use Rattle.js_tree.specs.declared.module.ImportDeclaration.{ImportDeclaration}
-use Rattle.js_tree.specs.declared.module.ImportSpecifier.{ImportSpecifier}
-use Rattle.js_tree.specs.declared.module.ModuleExportName.TheVariants as export_name
-use Rattle.js_tree.specs.declared.id.IdentifierName.{IdentifierName}
-use Rattle.js_tree.specs.declared.id.IdentifierReference.{IdentifierReference}
-use Rattle.js_tree.specs.declared.module.ExportDeclaration.{ExportDeclaration}
-use Rattle.js_tree.specs.declared.module.Program.{Program}
-use Rattle.js_tree.specs.declared.function.Function.{Function}
-use Rattle.js_tree.specs.declared.function.FunctionBody.{FunctionBody}
-use Rattle.js_tree.specs.declared.function.FunctionKind.{FunctionKind}
-use Rattle.js_tree.specs.declared.function.FunctionKind.TheVariants as function_kind
-use Rattle.js_tree.specs.declared.function.BindingPattern.{BindingPattern}
-use Rattle.js_tree.specs.declared.function.BindingPattern.TheVariants as binding_pattern
-use Rattle.js_tree.specs.declared.function.FormalParameter.{FormalParameter}
-use Rattle.js_tree.specs.declared.function.FormalParameters.{FormalParameters}
-use Rattle.js_tree.specs.declared.id.BindingIdentifier.{BindingIdentifier}
-use Rattle.js_tree.specs.declared.expression.StringLiteral.{StringLiteral}
+use Rattle.small_tree.specs.TermOf.{expression_term, declaration_term, statement_term, function_term, declarator_term, parameter_term, parameters_term, binding_term, pattern_term, body_term, function_word, variable_word, specifier_term, program_term}
+use Rattle.small_tree.proofs.Levels.{d_VariableDeclaration, d_FunctionDeclaration, s_ExpressionStatement, s_ReturnStatement, s_VariableDeclaration, s_FunctionDeclaration, s_ImportDeclaration, s_ExportDeclaration, function_parts, declarator_parts}
+use Rattle.small_tree.specs.declared.expression.Expression.{Expression}
+use Rattle.small_tree.specs.declared.module.Declaration.{Declaration}
+use Rattle.small_tree.specs.declared.module.Declaration.TheVariants as declaration
+use Rattle.small_tree.specs.declared.statement.Statement.{Statement}
+use Rattle.small_tree.specs.declared.statement.Statement.TheVariants as statement
+use Rattle.small_tree.specs.declared.statement.ExpressionStatement.{ExpressionStatement}
+use Rattle.small_tree.specs.declared.statement.ReturnStatement.{ReturnStatement}
+use Rattle.small_tree.specs.declared.statement.VariableDeclaration.{VariableDeclaration}
+use Rattle.small_tree.specs.declared.statement.VariableDeclarator.{VariableDeclarator}
+use Rattle.small_tree.specs.declared.module.ImportDeclaration.{ImportDeclaration}
+use Rattle.small_tree.specs.declared.module.ImportSpecifier.{ImportSpecifier}
+use Rattle.small_tree.specs.declared.module.ModuleExportName.TheVariants as export_name
+use Rattle.small_tree.specs.declared.id.IdentifierName.{IdentifierName}
+use Rattle.small_tree.specs.declared.id.IdentifierReference.{IdentifierReference}
+use Rattle.small_tree.specs.declared.module.ExportDeclaration.{ExportDeclaration}
+use Rattle.small_tree.specs.declared.module.Program.{Program}
+use Rattle.small_tree.specs.declared.function.Function.{Function}
+use Rattle.small_tree.specs.declared.function.FunctionBody.{FunctionBody}
+use Rattle.small_tree.specs.declared.function.FunctionKind.{FunctionKind}
+use Rattle.small_tree.specs.declared.function.FunctionKind.TheVariants as function_kind
+use Rattle.small_tree.specs.declared.function.BindingPattern.{BindingPattern}
+use Rattle.small_tree.specs.declared.function.BindingPattern.TheVariants as binding_pattern
+use Rattle.small_tree.specs.declared.function.FormalParameter.{FormalParameter}
+use Rattle.small_tree.specs.declared.function.FormalParameters.{FormalParameters}
+use Rattle.small_tree.specs.declared.id.BindingIdentifier.{BindingIdentifier}
+use Rattle.small_tree.specs.declared.expression.StringLiteral.{StringLiteral}
 use Rattle.js_print.specs.Layout.{pieces, printed, commas, braces, lines, quoted, renamed_text, is_looser, leads, no_need, held, layout}
 use Rattle.js_print.specs.Parts.{id_text, function_start, imported_text}
 use Rattle.js_print.proofs.Rows.{one_text, needs_parentheses, held_expression, pieces_each, statements_pieces}

@@ -2,11 +2,11 @@
 -- the braces of an import.
 use Rattle.std.specs.Prelude.{List, [], ◌++◌, map, Bool, true, false, Option, None, Some, codes}
 use Rattle.js_term.specs.Term.{Text}
-use Rattle.js_tree.specs.declared.function.FunctionKind.{FunctionKind}
-use Rattle.js_tree.specs.declared.function.FunctionKind.TheVariants as function_kind
-use Rattle.js_tree.specs.declared.id.BindingIdentifier.{BindingIdentifier}
-use Rattle.js_tree.specs.declared.module.ImportSpecifier.{ImportSpecifier}
-use Rattle.js_tree.specs.TermOf.{specifier_term}
+use Rattle.small_tree.specs.declared.function.FunctionKind.{FunctionKind}
+use Rattle.small_tree.specs.declared.function.FunctionKind.TheVariants as function_kind
+use Rattle.small_tree.specs.declared.id.BindingIdentifier.{BindingIdentifier}
+use Rattle.small_tree.specs.declared.module.ImportSpecifier.{ImportSpecifier}
+use Rattle.small_tree.specs.TermOf.{specifier_term}
 use Rattle.js_print.specs.Layout.{printed, wrapped, commas}
 
 abbrev pub id_text : Option BindingIdentifier → Text

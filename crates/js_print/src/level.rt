@@ -1,9 +1,9 @@
 ghost use Rattle.js_print.specs.Layout.{is_looser, is_number, leads, wrapped};
 ghost use Rattle.js_term.specs.Spells.{is_string_literal};
-ghost use Rattle.js_tree.specs.TermOf.{expression_term};
+ghost use Rattle.small_tree.specs.TermOf.{expression_term};
 ghost use Rattle.std.specs.Prelude.{◌≡◌, ◌≤◌, ◌||◌};
 
-use js_tree::Expression;
+use small_tree::Expression;
 
 /// Whether an expression binds less tightly than its place asks for.
 #[tactic(auto, using(crate::proofs::Levelled::l_Sequence, crate::proofs::Levelled::l_Await, crate::proofs::Levelled::l_Boolean, crate::proofs::Levelled::l_Numeric, crate::proofs::Levelled::l_String, crate::proofs::Levelled::l_Identifier, crate::proofs::Levelled::l_Array, crate::proofs::Levelled::l_Call, crate::proofs::Levelled::l_Function, crate::proofs::Levelled::l_Object, crate::proofs::Levelled::l_Parenthesized, crate::proofs::Levelled::l_Member))]

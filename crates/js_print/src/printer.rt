@@ -1,12 +1,12 @@
 ghost use Rattle.js_print.specs.Layout.{IsPrinted, layout, printed, wrapped, in_parentheses, at_level, commas, lines, braces, renamed_text};
 ghost use Rattle.js_print.specs.Parts.{function_start, key_start, imported_text};
 ghost use Rattle.js_term.specs.Form.{is_printable};
-ghost use Rattle.js_tree.specs.TermOf.{expression_term, statement_term, declaration_term, declarator_term, function_term, property_term, program_term, specifier_term, pattern_term, variable_word};
+ghost use Rattle.small_tree.specs.TermOf.{expression_term, statement_term, declaration_term, declarator_term, function_term, property_term, program_term, specifier_term, pattern_term, variable_word};
 ghost use Rattle.std.specs.Prelude.{◌≡◌, ◌++◌, true, false, map, codes, OnOk, IfOk, string_bytes};
 
 use crate::level::{is_loose_object, is_looser, reads_otherwise};
 use crate::strings::{print_lead, print_string};
-use js_tree::{
+use small_tree::{
     BindingPattern, Declaration, Expression, FormalParameter, Function, FunctionKind,
     ImportDeclaration, ImportSpecifier, ModuleExportName, ObjectProperty, Program, Statement,
     VariableDeclarationKind, VariableDeclarator,

@@ -1,5 +1,5 @@
 use crate::print_program;
-use js_tree::{Items, Program, Span};
+use small_tree::{Items, Program, Span};
 use std::test::Fail;
 
 #[test]

@@ -118,38 +118,13 @@ no_parentheses Sort.property = refl
 no_parentheses Sort.method = refl
 
 sort_read : (k : Kind) (s : Sort) → stands_small s k ≡ true → is_read_kind k ≡ true
-sort_read Kind.Program s h = refl
-sort_read Kind.Directive s h = refl
-sort_read Kind.ImportDeclaration s h = refl
-sort_read Kind.ImportSpecifier s h = refl
-sort_read Kind.ExportDeclaration s h = refl
-sort_read Kind.VariableDeclaration s h = refl
-sort_read Kind.VariableDeclarator s h = refl
-sort_read Kind.FunctionDeclaration s h = refl
-sort_read Kind.FunctionExpression s h = refl
-sort_read Kind.FormalParameters s h = refl
-sort_read Kind.FormalParameter s h = refl
-sort_read Kind.FunctionBody s h = refl
-sort_read Kind.ReturnStatement s h = refl
-sort_read Kind.ExpressionStatement s h = refl
-sort_read Kind.BindingIdentifier s h = refl
-sort_read Kind.IdentifierName s h = refl
-sort_read Kind.Identifier s h = refl
-sort_read Kind.StringLiteral s h = refl
-sort_read Kind.NumericLiteral s h = refl
 sort_read Kind.BooleanLiteral s h = no_sort Kind.BooleanLiteral no_boolean s h
-sort_read Kind.CallExpression s h = refl
-sort_read Kind.StaticMemberExpression s h = refl
 sort_read Kind.SequenceExpression s h = no_sort Kind.SequenceExpression no_sequence s h
 sort_read Kind.AwaitExpression s h = no_sort Kind.AwaitExpression no_await s h
 sort_read Kind.ArrayExpression s h = no_sort Kind.ArrayExpression no_array s h
 sort_read Kind.ObjectExpression s h = no_sort Kind.ObjectExpression no_object s h
-sort_read Kind.ObjectProperty s h = refl
 sort_read Kind.ParenthesizedExpression s h = no_sort Kind.ParenthesizedExpression no_parentheses s h
-sort_read Kind.Namespace s h = refl
-sort_read Kind.Local s h = refl
-sort_read Kind.Arguments s h = refl
-sort_read Kind.Global s h = refl
+sort_read k s h = refl
 
 place_read : (p : Place) (k : Kind) → takes_kind stands_small (allows is_small_name is_small_binding) places p k ≡ true → is_read_kind k ≡ true
 place_read (one s) k h = sort_read k s h

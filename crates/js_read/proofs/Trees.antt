@@ -2,27 +2,27 @@
 use Rattle.std.proofs.Common.{◌≡◌, ◌≢◌, ℕ, nat_le, false, List, [], ◌∷◌, ◌++◌, Some, map, refl, ◌∙◌}
 use Rattle.js_term.specs.Term.{Text, Term, all, two, node, Kind}
 use Rattle.js_term.specs.Node.{call_of, member_of, const_of, binding_of, named, function_of, return_of, statement_of, import_declaration_of}
-use Rattle.js_tree.specs.TermOf.{expression_term, declaration_term, statement_term, declarator_term, parameter_term, specifier_term}
-use Rattle.js_tree.proofs.Levels.{e_CallExpression, e_StaticMemberExpression, d_VariableDeclaration, d_FunctionDeclaration, s_ReturnStatement, s_ExpressionStatement, s_ImportDeclaration, declarator_parts, function_parts}
-use Rattle.js_tree.specs.declared.expression.Expression.{Expression}
-use Rattle.js_tree.specs.declared.expression.Expression.TheVariants as expression
-use Rattle.js_tree.specs.declared.expression.CallExpression.{CallExpression}
-use Rattle.js_tree.specs.declared.expression.StaticMemberExpression.{StaticMemberExpression}
-use Rattle.js_tree.specs.declared.id.BindingIdentifier.{BindingIdentifier}
-use Rattle.js_tree.specs.declared.function.BindingPattern.{BindingPattern}
-use Rattle.js_tree.specs.declared.function.BindingPattern.TheVariants as pattern
-use Rattle.js_tree.specs.declared.function.FormalParameter.{FormalParameter}
-use Rattle.js_tree.specs.declared.function.Function.{Function}
-use Rattle.js_tree.specs.declared.function.FunctionKind.TheVariants as function
-use Rattle.js_tree.specs.declared.statement.VariableDeclarator.{VariableDeclarator}
-use Rattle.js_tree.specs.declared.statement.VariableDeclaration.{VariableDeclaration}
-use Rattle.js_tree.specs.declared.statement.VariableDeclarationKind.TheVariants as kind
-use Rattle.js_tree.specs.declared.statement.ReturnStatement.{ReturnStatement}
-use Rattle.js_tree.specs.declared.statement.ExpressionStatement.{ExpressionStatement}
-use Rattle.js_tree.specs.declared.statement.Statement.TheVariants as statement
-use Rattle.js_tree.specs.declared.module.Declaration.TheVariants as declaration
-use Rattle.js_tree.specs.declared.module.ImportDeclaration.{ImportDeclaration}
-use Rattle.js_tree.specs.declared.module.ImportSpecifier.{ImportSpecifier}
+use Rattle.small_tree.specs.TermOf.{expression_term, declaration_term, statement_term, declarator_term, parameter_term, specifier_term}
+use Rattle.small_tree.proofs.Levels.{e_CallExpression, e_StaticMemberExpression, d_VariableDeclaration, d_FunctionDeclaration, s_ReturnStatement, s_ExpressionStatement, s_ImportDeclaration, declarator_parts, function_parts}
+use Rattle.small_tree.specs.declared.expression.Expression.{Expression}
+use Rattle.small_tree.specs.declared.expression.Expression.TheVariants as expression
+use Rattle.small_tree.specs.declared.expression.CallExpression.{CallExpression}
+use Rattle.small_tree.specs.declared.expression.StaticMemberExpression.{StaticMemberExpression}
+use Rattle.small_tree.specs.declared.id.BindingIdentifier.{BindingIdentifier}
+use Rattle.small_tree.specs.declared.function.BindingPattern.{BindingPattern}
+use Rattle.small_tree.specs.declared.function.BindingPattern.TheVariants as pattern
+use Rattle.small_tree.specs.declared.function.FormalParameter.{FormalParameter}
+use Rattle.small_tree.specs.declared.function.Function.{Function}
+use Rattle.small_tree.specs.declared.function.FunctionKind.TheVariants as function
+use Rattle.small_tree.specs.declared.statement.VariableDeclarator.{VariableDeclarator}
+use Rattle.small_tree.specs.declared.statement.VariableDeclaration.{VariableDeclaration}
+use Rattle.small_tree.specs.declared.statement.VariableDeclarationKind.TheVariants as kind
+use Rattle.small_tree.specs.declared.statement.ReturnStatement.{ReturnStatement}
+use Rattle.small_tree.specs.declared.statement.ExpressionStatement.{ExpressionStatement}
+use Rattle.small_tree.specs.declared.statement.Statement.TheVariants as statement
+use Rattle.small_tree.specs.declared.module.Declaration.TheVariants as declaration
+use Rattle.small_tree.specs.declared.module.ImportDeclaration.{ImportDeclaration}
+use Rattle.small_tree.specs.declared.module.ImportSpecifier.{ImportSpecifier}
 use Rattle.js_read.specs.Read.{fits}
 use Rattle.js_read.specs.Nests.{parameter_name, parameter_names, statements_of}
 

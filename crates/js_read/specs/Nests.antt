@@ -3,13 +3,13 @@ use Rattle.std.specs.Prelude.{◌≤◌, ◌<◌, ◌^◌, ℕ, ◌+◌, List, R
 use Rattle.std.specs.declared.alloc.Global.{Global}
 use denote.Ref.{MutBor}
 use Rattle.js_term.specs.Term.{Text, Term}
-use Rattle.js_tree.specs.TermOf.{expression_term, statement_term}
-use Rattle.js_tree.specs.declared.statement.Statement.{Statement}
-use Rattle.js_tree.specs.declared.function.FunctionBody.{FunctionBody}
-use Rattle.js_tree.specs.declared.function.FormalParameter.{FormalParameter}
-use Rattle.js_tree.specs.declared.function.FormalParameters.{FormalParameters}
-use Rattle.js_tree.specs.declared.function.BindingPattern.{BindingPattern}
-use Rattle.js_tree.specs.declared.function.BindingPattern.TheVariants as pattern
+use Rattle.small_tree.specs.TermOf.{expression_term, statement_term}
+use Rattle.small_tree.specs.declared.statement.Statement.{Statement}
+use Rattle.small_tree.specs.declared.function.FunctionBody.{FunctionBody}
+use Rattle.small_tree.specs.declared.function.FormalParameter.{FormalParameter}
+use Rattle.small_tree.specs.declared.function.FormalParameters.{FormalParameters}
+use Rattle.small_tree.specs.declared.function.BindingPattern.{BindingPattern}
+use Rattle.small_tree.specs.declared.function.BindingPattern.TheVariants as pattern
 use Rattle.js_read.specs.declared.found.Found.{Found}
 use Rattle.js_read.specs.declared.found.Listing.{Listing}
 use Rattle.js_read.specs.declared.fault.Halt.{Halt}

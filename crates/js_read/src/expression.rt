@@ -10,7 +10,7 @@ use crate::fault::Halt;
 use crate::found::{Found, Listing};
 use crate::{found, names};
 use js_lex::{Lexeme, Tokens};
-use js_tree::{BindingIdentifier, Ident, Items};
+use small_tree::{BindingIdentifier, Ident, Items};
 use std::alloc::Global;
 
 /// A name, a number or a string.

@@ -4,9 +4,9 @@ ghost use Rattle.std.specs.Prelude.{◌≡◌, ◌<◌, ◌≤◌, ◌+◌, ◌^
 ghost use Rattle.js_term.specs.Term as t;
 ghost use Rattle.js_term.specs.Node as node;
 ghost use Rattle.js_term.specs.Spells as spell;
-ghost use Rattle.js_tree.specs.TermOf.{expression_term};
+ghost use Rattle.small_tree.specs.TermOf.{expression_term};
 
-use js_tree::{
+use small_tree::{
     Boxed, CallExpression, Expression, Ident, IdentifierName, IdentifierReference, Items,
     NumericLiteral, Span, StaticMemberExpression, StringLiteral,
 };
@@ -29,7 +29,7 @@ pub(crate) struct Listing {
     ghost deep: { deepest ≡ t.depths (t.all (map expression_term items)) },
 }
 
-#[tactic(auto, using(js_tree::proofs::Levels::e_Identifier))]
+#[tactic(auto, using(small_tree::proofs::Levels::e_Identifier))]
 pub(crate) fn identifier(span: Span, name: Ident) -> Found
     ensures depth { result.depth ≡ 1 }
     ensures tree { expression_term result.tree ≡ node.identifier_of name }
@@ -44,7 +44,7 @@ pub(crate) fn identifier(span: Span, name: Ident) -> Found
     }
 }
 
-#[tactic(auto, using(js_tree::proofs::Levels::e_NumericLiteral))]
+#[tactic(auto, using(small_tree::proofs::Levels::e_NumericLiteral))]
 pub(crate) fn number(span: Span, raw: Ident) -> Found
     ensures depth { result.depth ≡ 1 }
     ensures tree { expression_term result.tree ≡ node.number_of raw }
@@ -55,7 +55,7 @@ pub(crate) fn number(span: Span, raw: Ident) -> Found
     }
 }
 
-#[tactic(auto, using(js_tree::proofs::Levels::e_StringLiteral))]
+#[tactic(auto, using(small_tree::proofs::Levels::e_StringLiteral))]
 pub(crate) fn string(literal: StringLiteral) -> Found
     ensures depth { result.depth ≡ 1 }
     ensures tree { expression_term result.tree ≡ node.string_of literal.value }
@@ -66,7 +66,7 @@ pub(crate) fn string(literal: StringLiteral) -> Found
     }
 }
 
-#[tactic(auto, using(js_tree::proofs::Levels::e_StaticMemberExpression))]
+#[tactic(auto, using(small_tree::proofs::Levels::e_StaticMemberExpression))]
 pub(crate) fn member(
     alloc: Global,
     span: Span,
@@ -90,7 +90,7 @@ pub(crate) fn member(
     })
 }
 
-#[tactic(auto, using(js_tree::proofs::Levels::e_CallExpression))]
+#[tactic(auto, using(small_tree::proofs::Levels::e_CallExpression))]
 pub(crate) fn call(
     alloc: Global,
     span: Span,

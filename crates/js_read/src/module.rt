@@ -1,7 +1,7 @@
 //! Imports, exports and whole modules.
 
 ghost use Rattle.std.specs.Prelude.{◌≡◌, ◌≤◌, ◌+◌, ◌<◌, ◌^◌, [], length, map, true, IfOk, IfErr};
-ghost use Rattle.js_tree.specs.TermOf.{specifier_term, statement_term, program_term};
+ghost use Rattle.small_tree.specs.TermOf.{specifier_term, statement_term, program_term};
 ghost use Rattle.js_read.specs.Read as spec;
 ghost use Rattle.js_term.specs.Term.{Text, Term, all, depth};
 ghost use Rattle.js_term.specs.Lexeme.{narrow};
@@ -16,7 +16,7 @@ use crate::nodes;
 use crate::statement::{Bodies, declares, statement};
 use js_lex::Tokens;
 use js_small::is_small_by;
-use js_tree::{
+use small_tree::{
     BindingIdentifier, IdentifierName, ImportSpecifier, Items, ModuleExportName, Program, Span,
     Statement, is_reserved,
 };

@@ -7,7 +7,7 @@ ghost use Rattle.js_read.specs.Gives.{Reads};
 
 use crate::fault::Halt;
 use js_lex::{Lexeme, Tokens};
-use js_tree::{BindingIdentifier, Ident, IdentifierName, Span, StringLiteral, is_reserved};
+use small_tree::{BindingIdentifier, Ident, IdentifierName, Span, StringLiteral, is_reserved};
 use std::alloc::Global;
 
 /// From where a node begins to the end of the last token that was passed.

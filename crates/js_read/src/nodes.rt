@@ -3,10 +3,10 @@
 ghost use Rattle.std.specs.Prelude.{◌≡◌, [], map, IfOk};
 ghost use Rattle.js_term.specs.Term as t;
 ghost use Rattle.js_term.specs.Node as node;
-ghost use Rattle.js_tree.specs.TermOf.{expression_term, declaration_term, statement_term, function_term, specifier_term};
+ghost use Rattle.small_tree.specs.TermOf.{expression_term, declaration_term, statement_term, function_term, specifier_term};
 ghost use Rattle.js_read.specs.Nests.{parameter_names, statements_of};
 
-use js_tree::{
+use small_tree::{
     BindingIdentifier, BindingPattern, Boxed, Declaration, ExportDeclaration, Expression,
     ExpressionStatement, FormalParameters, Function, FunctionBody, FunctionKind, ImportDeclaration,
     ImportSpecifier, Items, ReturnStatement, Span, Statement, StringLiteral, VariableDeclaration,

@@ -1,7 +1,7 @@
 //! Statements and declarations. What holds statements takes the reader of those as a parameter.
 
 ghost use Rattle.std.specs.Prelude.{◌≡◌, ◌+◌, ◌<◌, ◌^◌, [], length, map, IfOk};
-ghost use Rattle.js_tree.specs.TermOf.{declaration_term, statement_term};
+ghost use Rattle.small_tree.specs.TermOf.{declaration_term, statement_term};
 ghost use Rattle.js_read.specs.Read as spec;
 ghost use Rattle.js_read.specs.Gives.{Reads};
 ghost use Rattle.js_read.specs.Nests.{Holds, parameter_name, parameter_names, statements_of};
@@ -11,7 +11,7 @@ use crate::fault::Halt;
 use crate::names::{binding, expect, span_from};
 use crate::{found, nodes};
 use js_lex::Tokens;
-use js_tree::{
+use small_tree::{
     BindingPattern, Declaration, FormalParameter, FormalParameters, FunctionBody, Items, Statement,
 };
 use std::alloc::Global;

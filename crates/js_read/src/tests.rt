@@ -1,6 +1,6 @@
 use crate::fault::ReadFault;
 use crate::module::read_program;
-use js_tree::{
+use small_tree::{
     BindingPattern, Declaration, Expression, FormalParameters, Function, ImportDeclaration,
     ModuleExportName, Program, Span, Statement, VariableDeclaration,
 };

@@ -5,15 +5,15 @@ use mathlib.Core.Bool.{true≢false}
 use Rattle.js_term.specs.Term.{Kind, Term, absent, list, node, Terms, none, more, two, all, maybe, flag}
 use Rattle.js_term.specs.Scope.{role, body_names, module_scope, names_in}
 use Rattle.js_term.specs.Form.{Sort, Place, one, nowhere, empty, stands_small, places, fits, fits_each, fits_places, takes_kind, takes_list, takes_absent, item_place, first_place, later_places, no_places, no_texts, is_distinct, is_distinct_inside, has_distinct_scopes, have_distinct_scopes, is_small}
-use Rattle.js_tree.specs.TermOf.{function_word, function_term, binding_term, parameters_term, parameter_term, body_term, directive_term, statement_term, program_term, hashbang_texts}
-use Rattle.js_tree.specs.declared.function.Directive.{Directive}
-use Rattle.js_tree.specs.declared.function.Function.{Function}
-use Rattle.js_tree.specs.declared.function.FunctionKind.{FunctionKind}
-use Rattle.js_tree.specs.declared.function.FunctionKind.TheVariants as function_kind
-use Rattle.js_tree.specs.declared.module.Program.{Program}
-use Rattle.js_tree.specs.declared.statement.Statement.{Statement}
-use Rattle.js_tree.specs.declared.statement.Statement.TheVariants as statement
-use Rattle.js_tree.proofs.Levels.{function_parts, s_ExpressionStatement, s_ReturnStatement, s_VariableDeclaration, s_FunctionDeclaration, s_ImportDeclaration, s_ExportDeclaration}
+use Rattle.small_tree.specs.TermOf.{function_word, function_term, binding_term, parameters_term, parameter_term, body_term, directive_term, statement_term, program_term, hashbang_texts}
+use Rattle.small_tree.specs.declared.function.Directive.{Directive}
+use Rattle.small_tree.specs.declared.function.Function.{Function}
+use Rattle.small_tree.specs.declared.function.FunctionKind.{FunctionKind}
+use Rattle.small_tree.specs.declared.function.FunctionKind.TheVariants as function_kind
+use Rattle.small_tree.specs.declared.module.Program.{Program}
+use Rattle.small_tree.specs.declared.statement.Statement.{Statement}
+use Rattle.small_tree.specs.declared.statement.Statement.TheVariants as statement
+use Rattle.small_tree.proofs.Levels.{function_parts, s_ExpressionStatement, s_ReturnStatement, s_VariableDeclaration, s_FunctionDeclaration, s_ImportDeclaration, s_ExportDeclaration}
 use Rattle.js_small.specs.Small.{allowed, small_at, small_each, small_places, small_head, small_front}
 use Rattle.js_small.specs.Names.{parameter_names, declared_names, imported_names}
 use Rattle.js_small.proofs.Declares.{function_declares, module_names}

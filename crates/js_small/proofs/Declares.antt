@@ -4,23 +4,23 @@ use Rattle.std.proofs.lemmas.List.{append-nil}
 use Rattle.std.specs.Prelude.{option_map}
 use Rattle.js_term.specs.Term.{Text, Term, absent, list, node, Terms, none, more, two, all, maybe, kids_of, text_of, items}
 use Rattle.js_term.specs.Scope.{Role, role, kid, declared, declared_all, body_names, Scope, names_in, bound_by, brings, brought, past, plainly, all_brought, module_scope}
-use Rattle.js_tree.specs.TermOf.{function_word, pattern_term, binding_term, parameter_term, parameters_term, directive_term, body_term, specifier_term, statement_term, declaration_term, declarator_term, function_term, variables_term, specifiers_term, string_term}
-use Rattle.js_tree.specs.declared.function.BindingPattern.{BindingPattern}
-use Rattle.js_tree.specs.declared.function.BindingPattern.TheVariants as binding_pattern
-use Rattle.js_tree.specs.declared.function.Directive.{Directive}
-use Rattle.js_tree.specs.declared.function.FormalParameter.{FormalParameter}
-use Rattle.js_tree.specs.declared.function.Function.{Function}
-use Rattle.js_tree.specs.declared.function.FunctionKind.{FunctionKind}
-use Rattle.js_tree.specs.declared.function.FunctionKind.TheVariants as function_kind
-use Rattle.js_tree.specs.declared.module.Declaration.{Declaration}
-use Rattle.js_tree.specs.declared.module.ExportDeclaration.{ExportDeclaration}
-use Rattle.js_tree.specs.declared.module.ImportDeclaration.{ImportDeclaration}
-use Rattle.js_tree.specs.declared.module.ImportSpecifier.{ImportSpecifier}
-use Rattle.js_tree.specs.declared.statement.Statement.{Statement}
-use Rattle.js_tree.specs.declared.statement.Statement.TheVariants as statement
-use Rattle.js_tree.specs.declared.statement.VariableDeclaration.{VariableDeclaration}
-use Rattle.js_tree.specs.declared.statement.VariableDeclarator.{VariableDeclarator}
-use Rattle.js_tree.proofs.Levels.{d_VariableDeclaration, d_FunctionDeclaration, s_ExpressionStatement, s_ReturnStatement, s_VariableDeclaration, s_ExportDeclaration, s_ImportDeclaration, s_FunctionDeclaration, function_parts, declarator_parts}
+use Rattle.small_tree.specs.TermOf.{function_word, pattern_term, binding_term, parameter_term, parameters_term, directive_term, body_term, specifier_term, statement_term, declaration_term, declarator_term, function_term, variables_term, specifiers_term, string_term}
+use Rattle.small_tree.specs.declared.function.BindingPattern.{BindingPattern}
+use Rattle.small_tree.specs.declared.function.BindingPattern.TheVariants as binding_pattern
+use Rattle.small_tree.specs.declared.function.Directive.{Directive}
+use Rattle.small_tree.specs.declared.function.FormalParameter.{FormalParameter}
+use Rattle.small_tree.specs.declared.function.Function.{Function}
+use Rattle.small_tree.specs.declared.function.FunctionKind.{FunctionKind}
+use Rattle.small_tree.specs.declared.function.FunctionKind.TheVariants as function_kind
+use Rattle.small_tree.specs.declared.module.Declaration.{Declaration}
+use Rattle.small_tree.specs.declared.module.ExportDeclaration.{ExportDeclaration}
+use Rattle.small_tree.specs.declared.module.ImportDeclaration.{ImportDeclaration}
+use Rattle.small_tree.specs.declared.module.ImportSpecifier.{ImportSpecifier}
+use Rattle.small_tree.specs.declared.statement.Statement.{Statement}
+use Rattle.small_tree.specs.declared.statement.Statement.TheVariants as statement
+use Rattle.small_tree.specs.declared.statement.VariableDeclaration.{VariableDeclaration}
+use Rattle.small_tree.specs.declared.statement.VariableDeclarator.{VariableDeclarator}
+use Rattle.small_tree.proofs.Levels.{d_VariableDeclaration, d_FunctionDeclaration, s_ExpressionStatement, s_ReturnStatement, s_VariableDeclaration, s_ExportDeclaration, s_ImportDeclaration, s_FunctionDeclaration, function_parts, declarator_parts}
 use Rattle.js_small.specs.Names.{pattern_name, parameter_names, local_names, imported_names, locals, items_of, imported, locals_by}
 
 pub pattern_declares : (p : BindingPattern) → declared (pattern_term p) ≡ pattern_name p ∷ []

@@ -3,13 +3,13 @@ use Rattle.std.proofs.Common.{◌≡◌, ◌≤◌, refl, length, arith, List, [
 use Rattle.js_term.specs.Term.{Term, all}
 use Rattle.js_term.specs.Form.{Sort, some, single, empty, takes_list, is_small_expression}
 use Rattle.js_term.specs.Form as form
-use Rattle.js_tree.specs.TermOf.{expression_term}
-use Rattle.js_tree.specs.declared.function.Function.{Function}
-use Rattle.js_tree.specs.declared.function.FunctionKind.{FunctionKind}
-use Rattle.js_tree.specs.declared.function.FunctionKind.TheVariants as function_kind
-use Rattle.js_tree.specs.declared.expression.Expression.TheVariants as expression
-use Rattle.js_tree.proofs.Levels.{e_BooleanLiteral, e_NumericLiteral, e_StringLiteral, e_Identifier, e_ArrayExpression, e_AwaitExpression, e_CallExpression, e_FunctionExpression, e_ObjectExpression, e_ParenthesizedExpression, e_SequenceExpression, e_StaticMemberExpression, function_parts}
-use Rattle.js_tree.specs.TermOf.{function_word}
+use Rattle.small_tree.specs.TermOf.{expression_term}
+use Rattle.small_tree.specs.declared.function.Function.{Function}
+use Rattle.small_tree.specs.declared.function.FunctionKind.{FunctionKind}
+use Rattle.small_tree.specs.declared.function.FunctionKind.TheVariants as function_kind
+use Rattle.small_tree.specs.declared.expression.Expression.TheVariants as expression
+use Rattle.small_tree.proofs.Levels.{e_BooleanLiteral, e_NumericLiteral, e_StringLiteral, e_Identifier, e_ArrayExpression, e_AwaitExpression, e_CallExpression, e_FunctionExpression, e_ObjectExpression, e_ParenthesizedExpression, e_SequenceExpression, e_StaticMemberExpression, function_parts}
+use Rattle.small_tree.specs.TermOf.{function_word}
 use Rattle.js_small.specs.Small.{small_at}
 
 no_expression_word : (k : FunctionKind) → is_small_expression (function_word k) ≡ false

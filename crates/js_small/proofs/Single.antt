@@ -4,8 +4,8 @@ use mathlib.Core.Bool.{true≢false}
 use Rattle.js_term.specs.Term.{Text, Kind, Term, absent, list, node, Terms, none, more, all}
 use Rattle.js_term.specs.Scope.{role, declares, declared, declared_all, declared_first}
 use Rattle.js_term.specs.Form.{Sort, Place, one, single, nowhere, stands_small, is_declaration, is_item, is_statement, is_distinct_inside, places}
-use Rattle.js_tree.specs.TermOf.{statement_term}
-use Rattle.js_tree.specs.declared.statement.Statement.{Statement}
+use Rattle.small_tree.specs.TermOf.{statement_term}
+use Rattle.small_tree.specs.declared.statement.Statement.{Statement}
 use Rattle.js_small.specs.Small.{allowed, small_at, small_each, small_places}
 use Rattle.js_small.specs.Names.{first_name, with_name, declared_names}
 

@@ -4,12 +4,12 @@ use Rattle.std.specs.Prelude.{List, [], ◌∷◌, ◌++◌, Option, None, Some,
 use Rattle.js_term.specs.Term.{Text, Term, node, Terms, none, more, items, kids_of, text_of}
 use Rattle.js_term.specs.Scope.{Role, role, kid, declared}
 use Rattle.js_term.specs.Lexeme.{is_one_of}
-use Rattle.js_tree.specs.TermOf.{statement_term}
-use Rattle.js_tree.specs.declared.function.BindingPattern.{BindingPattern}
-use Rattle.js_tree.specs.declared.function.BindingPattern.TheVariants as binding_pattern
-use Rattle.js_tree.specs.declared.function.FormalParameter.{FormalParameter}
-use Rattle.js_tree.specs.declared.module.ImportSpecifier.{ImportSpecifier}
-use Rattle.js_tree.specs.declared.statement.Statement.{Statement}
+use Rattle.small_tree.specs.TermOf.{statement_term}
+use Rattle.small_tree.specs.declared.function.BindingPattern.{BindingPattern}
+use Rattle.small_tree.specs.declared.function.BindingPattern.TheVariants as binding_pattern
+use Rattle.small_tree.specs.declared.function.FormalParameter.{FormalParameter}
+use Rattle.small_tree.specs.declared.module.ImportSpecifier.{ImportSpecifier}
+use Rattle.small_tree.specs.declared.statement.Statement.{Statement}
 
 abbrev pub pattern_name : BindingPattern → Text
 pattern_name (binding_pattern.BindingIdentifier n) = n.name

@@ -3,9 +3,9 @@ use Rattle.std.specs.Prelude.{List, [], ◌∷◌, option_map, map, Bool, true, 
 use Rattle.js_term.specs.Term.{Text, Kind, Term, absent, list, node, Terms, none, more, all, maybe, flag}
 use Rattle.js_term.specs.Scope.{role}
 use Rattle.js_term.specs.Form.{Sort, Place, one, empty, takes_absent, takes_list, item_place, first_place, later_places, no_places, no_texts, takes_kind, stands_small, allows, places, is_small_name, is_small_binding, is_distinct_inside}
-use Rattle.js_tree.specs.TermOf.{function_word, binding_term, parameter_term, directive_term, hashbang_texts}
-use Rattle.js_tree.specs.declared.function.Function.{Function}
-use Rattle.js_tree.specs.declared.module.Program.{Program}
+use Rattle.small_tree.specs.TermOf.{function_word, binding_term, parameter_term, directive_term, hashbang_texts}
+use Rattle.small_tree.specs.declared.function.Function.{Function}
+use Rattle.small_tree.specs.declared.module.Program.{Program}
 
 abbrev pub allowed : Kind → List Text → Bool
 allowed = allows is_small_name is_small_binding

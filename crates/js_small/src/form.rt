@@ -3,11 +3,11 @@
 ghost use Rattle.std.specs.Prelude.{◌≡◌, [], ◌∷◌, ◌&&◌, map, option_map, codes};
 ghost use Rattle.js_term.specs.Form.{one, single, some, empty, no_texts, takes_list, Sort, stands_small};
 ghost use Rattle.js_term.specs.Term.{list, all, maybe, flag};
-ghost use Rattle.js_tree.specs.TermOf as tree;
+ghost use Rattle.small_tree.specs.TermOf as tree;
 ghost use Rattle.js_small.specs.Small.{small_at, small_each, small_head, small_front, allowed};
 
 use crate::words::{is_decimal, is_small_binding, is_small_name, is_word};
-use js_tree::{
+use small_tree::{
     BindingIdentifier, BindingPattern, Boxed, Directive, Expression, FormalParameter, Function,
     FunctionKind, Ident, ImportDeclaration, ImportSpecifier, Items, ModuleExportName, Program,
     ReturnStatement, VariableDeclaration, VariableDeclarationKind, VariableDeclarator,
@@ -100,7 +100,7 @@ pub(crate) fn is_return(n: &ReturnStatement) -> bool
     is_value(&n.argument)
 }
 
-#[tactic(auto, using(js_tree::proofs::Levels::declarator_parts))]
+#[tactic(auto, using(small_tree::proofs::Levels::declarator_parts))]
 fn is_declarator(n: &VariableDeclarator) -> bool
     ensures { result ≡ small_at (one Sort.declarator) (tree.declarator_term n.now) }
 {

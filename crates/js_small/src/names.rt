@@ -4,10 +4,10 @@ ghost use Rattle.std.specs.Prelude.{◌≡◌, map, option_map};
 ghost use Rattle.std.specs.Option.{option_copied};
 ghost use Rattle.js_term.specs.Scope.{declared, declared_all};
 ghost use Rattle.js_term.specs.Term.{all, maybe};
-ghost use Rattle.js_tree.specs.TermOf as tree;
+ghost use Rattle.small_tree.specs.TermOf as tree;
 ghost use Rattle.js_small.specs.Names as names;
 
-use js_tree::{
+use small_tree::{
     BindingIdentifier, BindingPattern, Declaration, Function, FunctionKind, Ident, ImportSpecifier,
     Items, Statement, VariableDeclarator,
 };

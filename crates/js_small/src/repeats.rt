@@ -3,11 +3,11 @@
 ghost use Rattle.std.specs.Prelude.{◌≡◌, [], ◌++◌};
 ghost use Rattle.js_term.specs.Form.{is_distinct};
 ghost use Rattle.js_term.specs.Lexeme.{is_one_of};
-ghost use Rattle.js_tree.specs.TermOf.{statement_term};
+ghost use Rattle.small_tree.specs.TermOf.{statement_term};
 ghost use Rattle.js_small.specs.Names as names;
 
 use crate::names::{declared_name, pattern_name, specifiers_of};
-use js_tree::{FormalParameter, Function, Ident, ImportSpecifier, Statement};
+use small_tree::{FormalParameter, Function, Ident, ImportSpecifier, Statement};
 
 fn is_parameter(items: &[FormalParameter], name: &Ident) -> bool
     ensures { result ≡ is_one_of name.now (names.parameter_names items.now) }

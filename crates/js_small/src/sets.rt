@@ -2,13 +2,13 @@
 
 ghost use Rattle.std.specs.Prelude.{◌≡◌, [], ◌++◌, not, ◌||◌, IfOk, OnOk};
 ghost use Rattle.js_term.specs.Term.{Text, is_text};
-ghost use Rattle.js_tree.specs.TermOf.{statement_term};
+ghost use Rattle.small_tree.specs.TermOf.{statement_term};
 ghost use Rattle.js_small.specs.Seen.{has};
 ghost use Rattle.js_term.specs.Form.{is_distinct};
 ghost use Rattle.js_small.specs.Names as names;
 
 use crate::names::{declared_name, pattern_name, specifiers_of};
-use js_tree::{FormalParameter, Function, Ident, ImportSpecifier, Items, Statement};
+use small_tree::{FormalParameter, Function, Ident, ImportSpecifier, Items, Statement};
 use std::alloc::{AllocError, Global};
 use std::collections::BTreeSet;
 

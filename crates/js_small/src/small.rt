@@ -4,12 +4,12 @@ ghost use Rattle.std.specs.Prelude.{◌≡◌, map};
 ghost use Rattle.js_term.specs.Form as form;
 ghost use Rattle.js_term.specs.Form.{one, Sort};
 ghost use Rattle.js_term.specs.Term.{all};
-ghost use Rattle.js_tree.specs.TermOf as tree;
+ghost use Rattle.small_tree.specs.TermOf as tree;
 ghost use Rattle.js_small.specs.Small.{small_at, small_each};
 
 use crate::form::{has_small_front, has_small_head, is_constant, is_effect, is_import, is_return};
 use crate::repeats::{are_module_names_distinct, has_distinct_names};
-use js_tree::{Declaration, Function, Program, Statement};
+use small_tree::{Declaration, Function, Program, Statement};
 
 #[cycle(statement)]
 #[tactic(auto, using(crate::proofs::Agree::function_small))]
@@ -45,7 +45,7 @@ fn are_statements(items: &[Statement]) -> bool
     true
 }
 
-#[tactic(auto, using(js_tree::proofs::Levels::d_VariableDeclaration, js_tree::proofs::Levels::d_FunctionDeclaration))]
+#[tactic(auto, using(small_tree::proofs::Levels::d_VariableDeclaration, small_tree::proofs::Levels::d_FunctionDeclaration))]
 fn is_declaration(d: &Declaration) -> bool
     ensures { result ≡ small_at (one Sort.declaration) (tree.declaration_term d.now) }
 {

@@ -4,12 +4,12 @@ ghost use Rattle.std.specs.Prelude.{◌≡◌, map, IfOk};
 ghost use Rattle.js_term.specs.Form as form;
 ghost use Rattle.js_term.specs.Form.{one, Sort};
 ghost use Rattle.js_term.specs.Term.{all};
-ghost use Rattle.js_tree.specs.TermOf as tree;
+ghost use Rattle.small_tree.specs.TermOf as tree;
 ghost use Rattle.js_small.specs.Small.{small_at, small_each};
 
 use crate::form::{has_small_front, has_small_head, is_constant, is_effect, is_import, is_return};
 use crate::sets::{are_module_names_distinct_by, has_distinct_names_by};
-use js_tree::{Declaration, Function, Program, Statement};
+use small_tree::{Declaration, Function, Program, Statement};
 use std::alloc::{AllocError, Global};
 
 #[cycle(statement_by)]
@@ -50,7 +50,7 @@ fn are_statements_by(alloc: Global, items: &[Statement]) -> Result<bool, AllocEr
     Ok(true)
 }
 
-#[tactic(auto, using(js_tree::proofs::Levels::d_VariableDeclaration, js_tree::proofs::Levels::d_FunctionDeclaration))]
+#[tactic(auto, using(small_tree::proofs::Levels::d_VariableDeclaration, small_tree::proofs::Levels::d_FunctionDeclaration))]
 fn is_declaration_by(alloc: Global, d: &Declaration) -> Result<bool, AllocError>
     ensures { IfOk result (λ b. b ≡ small_at (one Sort.declaration) (tree.declaration_term d.now)) }
 {

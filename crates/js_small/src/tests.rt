@@ -1,5 +1,5 @@
 use crate::{is_small, is_small_by};
-use js_tree::{
+use small_tree::{
     BindingIdentifier, BindingPattern, Boxed, CallExpression, Expression, ExpressionStatement,
     FormalParameter, FormalParameters, Function, FunctionBody, FunctionKind, Ident, IdentifierName,
     IdentifierReference, ImportDeclaration, ImportSpecifier, Items, ModuleExportName,

@@ -5,7 +5,7 @@ ghost use Rattle.std.specs.List.{list_all};
 ghost use Rattle.js_term.specs.Form as form;
 ghost use Rattle.js_term.specs.Lexeme as spec;
 
-use js_tree::is_reserved;
+use small_tree::is_reserved;
 
 fn is_digit(byte: u8) -> bool
     ensures { result ≡ spec.is_digit byte }

@@ -13,32 +13,101 @@ is_text = pointwise nat_eq
 pub data Kind : Type 0 where
   Program : Kind
   Directive : Kind
-  ImportDeclaration : Kind
-  ImportSpecifier : Kind
-  ExportDeclaration : Kind
+  BlockStatement : Kind
+  BreakStatement : Kind
+  ContinueStatement : Kind
+  DebuggerStatement : Kind
+  DoWhileStatement : Kind
+  EmptyStatement : Kind
+  ExpressionStatement : Kind
+  ForInStatement : Kind
+  ForOfStatement : Kind
+  ForStatement : Kind
+  IfStatement : Kind
+  LabeledStatement : Kind
+  ReturnStatement : Kind
+  SwitchStatement : Kind
+  SwitchCase : Kind
+  ThrowStatement : Kind
+  TryStatement : Kind
+  CatchClause : Kind
+  CatchParameter : Kind
+  WhileStatement : Kind
   VariableDeclaration : Kind
   VariableDeclarator : Kind
   FunctionDeclaration : Kind
+  ClassDeclaration : Kind
+  ImportDeclaration : Kind
+  ImportSpecifier : Kind
+  ImportDefaultSpecifier : Kind
+  ImportNamespaceSpecifier : Kind
+  ExportAllDeclaration : Kind
+  ExportNamedDeclaration : Kind
+  ExportFromDeclaration : Kind
+  ExportSpecifier : Kind
+  ExportDeclaration : Kind
+  ExportDefaultDeclaration : Kind
   FunctionExpression : Kind
   FormalParameters : Kind
   FormalParameter : Kind
+  FormalParameterRest : Kind
   FunctionBody : Kind
-  ReturnStatement : Kind
-  ExpressionStatement : Kind
+  ClassExpression : Kind
+  ClassBody : Kind
+  StaticBlock : Kind
+  MethodDefinition : Kind
+  PropertyDefinition : Kind
   BindingIdentifier : Kind
+  ObjectPattern : Kind
+  BindingProperty : Kind
+  ArrayPattern : Kind
+  AssignmentPattern : Kind
+  BindingRestElement : Kind
+  ArrayAssignmentTarget : Kind
+  ObjectAssignmentTarget : Kind
+  AssignmentTargetProperty : Kind
+  AssignmentTargetWithDefault : Kind
+  AssignmentTargetRest : Kind
   IdentifierName : Kind
+  PrivateIdentifier : Kind
+  LabelIdentifier : Kind
   Identifier : Kind
   StringLiteral : Kind
   NumericLiteral : Kind
+  BigIntLiteral : Kind
   BooleanLiteral : Kind
-  CallExpression : Kind
-  StaticMemberExpression : Kind
-  SequenceExpression : Kind
-  AwaitExpression : Kind
+  NullLiteral : Kind
+  RegExpLiteral : Kind
+  TemplateLiteral : Kind
+  TemplateElement : Kind
+  ThisExpression : Kind
+  Super : Kind
+  ImportMeta : Kind
+  NewTarget : Kind
+  ParenthesizedExpression : Kind
   ArrayExpression : Kind
+  SpreadElement : Kind
   ObjectExpression : Kind
   ObjectProperty : Kind
-  ParenthesizedExpression : Kind
+  SequenceExpression : Kind
+  AssignmentExpression : Kind
+  ArrowFunctionExpression : Kind
+  YieldExpression : Kind
+  ConditionalExpression : Kind
+  LogicalExpression : Kind
+  BinaryExpression : Kind
+  PrivateInExpression : Kind
+  UnaryExpression : Kind
+  AwaitExpression : Kind
+  UpdateExpression : Kind
+  ChainExpression : Kind
+  CallExpression : Kind
+  ImportExpression : Kind
+  StaticMemberExpression : Kind
+  ComputedMemberExpression : Kind
+  PrivateFieldExpression : Kind
+  TaggedTemplateExpression : Kind
+  NewExpression : Kind
   Namespace : Kind
   Local : Kind
   Arguments : Kind

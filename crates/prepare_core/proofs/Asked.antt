@@ -5,14 +5,14 @@ use Rattle.std.proofs.lemmas.List.{map-append, append-nil}
 use Rattle.js_term.specs.Term.{Text, Term, absent, list, node, Terms, none, more, one, append, all, text_of, maybe}
 use Rattle.std.specs.Prelude.{option_map}
 use Rattle.js_term.specs.Scope.{Role, role, Env, is_request}
-use Rattle.js_tree.specs.TermOf.{specifier_term, specifiers_term, export_name_term, statement_term, declaration_term}
-use Rattle.js_tree.specs.declared.module.Declaration.{Declaration}
-use Rattle.js_tree.specs.declared.module.ExportDeclaration.{ExportDeclaration}
-use Rattle.js_tree.specs.declared.module.ImportDeclaration.{ImportDeclaration}
-use Rattle.js_tree.specs.declared.module.ImportSpecifier.{ImportSpecifier}
-use Rattle.js_tree.specs.declared.statement.Statement.{Statement}
-use Rattle.js_tree.specs.declared.statement.Statement.TheVariants as statement
-use Rattle.js_tree.proofs.Levels.{s_ImportDeclaration, s_ExportDeclaration}
+use Rattle.small_tree.specs.TermOf.{specifier_term, specifiers_term, export_name_term, statement_term, declaration_term}
+use Rattle.small_tree.specs.declared.module.Declaration.{Declaration}
+use Rattle.small_tree.specs.declared.module.ExportDeclaration.{ExportDeclaration}
+use Rattle.small_tree.specs.declared.module.ImportDeclaration.{ImportDeclaration}
+use Rattle.small_tree.specs.declared.module.ImportSpecifier.{ImportSpecifier}
+use Rattle.small_tree.specs.declared.statement.Statement.{Statement}
+use Rattle.small_tree.specs.declared.statement.Statement.TheVariants as statement
+use Rattle.small_tree.proofs.Levels.{s_ImportDeclaration, s_ExportDeclaration}
 use Rattle.module_model.specs.Meaning.{Request, asked, requests, imported_by, imported_names, sources_of, handed_out, all_handed_out, keeps, kept, all_kept}
 use Rattle.module_model.specs.Run.{written, getters, written_requests}
 use Rattle.module_model.specs.Shape.{request, getter}

@@ -7,9 +7,9 @@ use Rattle.std.specs.Cmp.Lexicographic.{bytes_decides}
 use Rattle.std.specs.Map.{lookup}
 use Rattle.js_term.specs.Term.{Text, Term, absent, list, node, all, is_text}
 use Rattle.js_term.specs.Scope.{Role, role, Scope, Entry, imported, entry_of, brought, bound_by, past, all_brought, is_request}
-use Rattle.js_tree.specs.TermOf.{specifier_term, statement_term}
-use Rattle.js_tree.specs.declared.module.ImportSpecifier.{ImportSpecifier}
-use Rattle.js_tree.specs.declared.statement.Statement.{Statement}
+use Rattle.small_tree.specs.TermOf.{specifier_term, statement_term}
+use Rattle.small_tree.specs.declared.module.ImportSpecifier.{ImportSpecifier}
+use Rattle.small_tree.specs.declared.statement.Statement.{Statement}
 use Rattle.module_model.specs.Meaning.{asked, asks, requests}
 use Rattle.prepare_core.specs.Names.{HasImports, brought_in, is_import}
 use Rattle.prepare_core.specs.declared.scopes.Import.{Import}

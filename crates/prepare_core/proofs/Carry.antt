@@ -5,17 +5,17 @@ use Rattle.std.specs.HashSet.{HashSet}
 use Rattle.js_term.specs.Term.{Text, Term, Terms, Kind, absent, list, node, none, more, two, all, maybe, flag, is_text, first}
 use Rattle.js_term.specs.Lexeme.{is_one_of}
 use Rattle.js_term.specs.Scope.{Role, role, Env, Scope, Entry, here, arguments_object, imported, plainly, call_scope, entry_of, found, resolve, inner, function_env, body_names, parameter_names}
-use Rattle.js_tree.specs.TermOf.{binding_term, pattern_term, parameter_term, parameters_term, directive_term, statement_term, function_term, function_word}
-use Rattle.js_tree.specs.declared.id.BindingIdentifier.{BindingIdentifier}
-use Rattle.js_tree.specs.declared.function.BindingPattern.{BindingPattern}
-use Rattle.js_tree.specs.declared.function.BindingPattern.TheVariants as binding_pattern
-use Rattle.js_tree.specs.declared.function.FormalParameter.{FormalParameter}
-use Rattle.js_tree.specs.declared.function.Directive.{Directive}
-use Rattle.js_tree.specs.declared.function.Function.{Function}
-use Rattle.js_tree.specs.declared.function.FunctionKind.{FunctionKind}
-use Rattle.js_tree.specs.declared.function.FunctionKind.TheVariants as function_kind
-use Rattle.js_tree.specs.declared.statement.Statement.{Statement}
-use Rattle.js_tree.proofs.Levels.{function_parts}
+use Rattle.small_tree.specs.TermOf.{binding_term, pattern_term, parameter_term, parameters_term, directive_term, statement_term, function_term, function_word}
+use Rattle.small_tree.specs.declared.id.BindingIdentifier.{BindingIdentifier}
+use Rattle.small_tree.specs.declared.function.BindingPattern.{BindingPattern}
+use Rattle.small_tree.specs.declared.function.BindingPattern.TheVariants as binding_pattern
+use Rattle.small_tree.specs.declared.function.FormalParameter.{FormalParameter}
+use Rattle.small_tree.specs.declared.function.Directive.{Directive}
+use Rattle.small_tree.specs.declared.function.Function.{Function}
+use Rattle.small_tree.specs.declared.function.FunctionKind.{FunctionKind}
+use Rattle.small_tree.specs.declared.function.FunctionKind.TheVariants as function_kind
+use Rattle.small_tree.specs.declared.statement.Statement.{Statement}
+use Rattle.small_tree.proofs.Levels.{function_parts}
 use Rattle.module_model.specs.Resolved.{finished}
 use Rattle.module_model.specs.Run.{spelled, written}
 use Rattle.prepare_core.specs.Names.{IsScopeOf, function_names, kids_of_function, is_value, within}

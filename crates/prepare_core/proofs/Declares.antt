@@ -4,25 +4,25 @@ use Rattle.std.proofs.lemmas.List.{append-nil}
 use Rattle.std.specs.Prelude.{option_map}
 use Rattle.js_term.specs.Term.{Text, node, all, maybe, flag}
 use Rattle.js_term.specs.Scope.{declared, declared_all, body_names}
-use Rattle.js_tree.specs.TermOf.{directive_term, pattern_term, parameter_term, binding_term, declaration_term, statement_term, declarator_term, function_term, function_word}
-use Rattle.js_tree.specs.declared.function.BindingPattern.{BindingPattern}
-use Rattle.js_tree.specs.declared.function.FormalParameter.{FormalParameter}
-use Rattle.js_tree.specs.declared.function.Directive.{Directive}
-use Rattle.js_tree.specs.declared.function.Function.{Function}
-use Rattle.js_tree.specs.declared.function.FunctionKind.{FunctionKind}
-use Rattle.js_tree.specs.declared.function.FunctionKind.TheVariants as function_kind
-use Rattle.js_tree.specs.declared.expression.Expression.{Expression}
-use Rattle.js_tree.specs.declared.module.Declaration.{Declaration}
-use Rattle.js_tree.specs.declared.module.Declaration.TheVariants as declaration
-use Rattle.js_tree.specs.declared.statement.Statement.{Statement}
-use Rattle.js_tree.specs.declared.statement.Statement.TheVariants as statement
-use Rattle.js_tree.specs.declared.module.ImportDeclaration.{ImportDeclaration}
-use Rattle.js_tree.specs.declared.module.ExportDeclaration.{ExportDeclaration}
-use Rattle.js_tree.specs.declared.statement.ReturnStatement.{ReturnStatement}
-use Rattle.js_tree.specs.declared.statement.ExpressionStatement.{ExpressionStatement}
-use Rattle.js_tree.specs.declared.statement.VariableDeclarator.{VariableDeclarator}
-use Rattle.js_tree.specs.declared.statement.VariableDeclaration.{VariableDeclaration}
-use Rattle.js_tree.proofs.Levels.{d_VariableDeclaration, d_FunctionDeclaration, s_ImportDeclaration, s_ExportDeclaration, s_VariableDeclaration, s_FunctionDeclaration, s_ReturnStatement, s_ExpressionStatement, function_parts, declarator_parts}
+use Rattle.small_tree.specs.TermOf.{directive_term, pattern_term, parameter_term, binding_term, declaration_term, statement_term, declarator_term, function_term, function_word}
+use Rattle.small_tree.specs.declared.function.BindingPattern.{BindingPattern}
+use Rattle.small_tree.specs.declared.function.FormalParameter.{FormalParameter}
+use Rattle.small_tree.specs.declared.function.Directive.{Directive}
+use Rattle.small_tree.specs.declared.function.Function.{Function}
+use Rattle.small_tree.specs.declared.function.FunctionKind.{FunctionKind}
+use Rattle.small_tree.specs.declared.function.FunctionKind.TheVariants as function_kind
+use Rattle.small_tree.specs.declared.expression.Expression.{Expression}
+use Rattle.small_tree.specs.declared.module.Declaration.{Declaration}
+use Rattle.small_tree.specs.declared.module.Declaration.TheVariants as declaration
+use Rattle.small_tree.specs.declared.statement.Statement.{Statement}
+use Rattle.small_tree.specs.declared.statement.Statement.TheVariants as statement
+use Rattle.small_tree.specs.declared.module.ImportDeclaration.{ImportDeclaration}
+use Rattle.small_tree.specs.declared.module.ExportDeclaration.{ExportDeclaration}
+use Rattle.small_tree.specs.declared.statement.ReturnStatement.{ReturnStatement}
+use Rattle.small_tree.specs.declared.statement.ExpressionStatement.{ExpressionStatement}
+use Rattle.small_tree.specs.declared.statement.VariableDeclarator.{VariableDeclarator}
+use Rattle.small_tree.specs.declared.statement.VariableDeclaration.{VariableDeclaration}
+use Rattle.small_tree.proofs.Levels.{d_VariableDeclaration, d_FunctionDeclaration, s_ImportDeclaration, s_ExportDeclaration, s_VariableDeclaration, s_FunctionDeclaration, s_ReturnStatement, s_ExpressionStatement, function_parts, declarator_parts}
 use Rattle.prepare_core.specs.Names.{function_names, kids_of_function, is_value, inside, outside}
 use Rattle.prepare_core.proofs.Lists.{names_more}
 

@@ -3,30 +3,30 @@ use Rattle.std.proofs.Common.{◌≡◌, refl, ◌∙◌, ap, List, [], ◌∷�
 use Rattle.std.proofs.Math.Seq.{take-suc}
 use Rattle.js_term.specs.Term.{Text, Term, more, append, all, one, maybe}
 use Rattle.js_term.specs.Node.{identifier_of, string_of, member_of, call_of, boolean_of, object_of, array_of, await_of, method_of, return_of, const_of, statement_of, parenthesized_of, sequence_of, number_of}
-use Rattle.js_tree.specs.TermOf.{expression_term, property_term, function_term, statement_term, declarator_term}
-use Rattle.js_tree.specs.declared.id.Span.{Span}
-use Rattle.js_tree.specs.declared.id.IdentifierReference.{IdentifierReference}
-use Rattle.js_tree.specs.declared.id.IdentifierName.{IdentifierName}
-use Rattle.js_tree.specs.declared.expression.StaticMemberExpression.{StaticMemberExpression}
-use Rattle.js_tree.specs.declared.expression.BooleanLiteral.{BooleanLiteral}
-use Rattle.js_tree.specs.declared.expression.StringLiteral.{StringLiteral}
-use Rattle.js_tree.specs.declared.expression.NumericLiteral.{NumericLiteral}
-use Rattle.js_tree.specs.declared.expression.CallExpression.{CallExpression}
-use Rattle.js_tree.specs.declared.expression.ObjectProperty.{ObjectProperty}
-use Rattle.js_tree.specs.declared.expression.Expression.{Expression}
-use Rattle.js_tree.specs.declared.expression.Expression.TheVariants as expression
-use Rattle.js_tree.specs.declared.id.BindingIdentifier.{BindingIdentifier}
-use Rattle.js_tree.specs.declared.function.BindingPattern.TheVariants as binding_pattern
-use Rattle.js_tree.specs.declared.function.FunctionKind.TheVariants as function_kind
-use Rattle.js_tree.specs.declared.function.Function.{Function}
-use Rattle.js_tree.specs.declared.statement.VariableDeclaration.{VariableDeclaration}
-use Rattle.js_tree.specs.declared.statement.VariableDeclarationKind.TheVariants as variable_kind
-use Rattle.js_tree.specs.declared.statement.Statement.{Statement}
-use Rattle.js_tree.specs.declared.statement.Statement.TheVariants as statement
-use Rattle.js_tree.specs.declared.statement.VariableDeclarator.{VariableDeclarator}
+use Rattle.small_tree.specs.TermOf.{expression_term, property_term, function_term, statement_term, declarator_term}
+use Rattle.small_tree.specs.declared.id.Span.{Span}
+use Rattle.small_tree.specs.declared.id.IdentifierReference.{IdentifierReference}
+use Rattle.small_tree.specs.declared.id.IdentifierName.{IdentifierName}
+use Rattle.small_tree.specs.declared.expression.StaticMemberExpression.{StaticMemberExpression}
+use Rattle.small_tree.specs.declared.expression.BooleanLiteral.{BooleanLiteral}
+use Rattle.small_tree.specs.declared.expression.StringLiteral.{StringLiteral}
+use Rattle.small_tree.specs.declared.expression.NumericLiteral.{NumericLiteral}
+use Rattle.small_tree.specs.declared.expression.CallExpression.{CallExpression}
+use Rattle.small_tree.specs.declared.expression.ObjectProperty.{ObjectProperty}
+use Rattle.small_tree.specs.declared.expression.Expression.{Expression}
+use Rattle.small_tree.specs.declared.expression.Expression.TheVariants as expression
+use Rattle.small_tree.specs.declared.id.BindingIdentifier.{BindingIdentifier}
+use Rattle.small_tree.specs.declared.function.BindingPattern.TheVariants as binding_pattern
+use Rattle.small_tree.specs.declared.function.FunctionKind.TheVariants as function_kind
+use Rattle.small_tree.specs.declared.function.Function.{Function}
+use Rattle.small_tree.specs.declared.statement.VariableDeclaration.{VariableDeclaration}
+use Rattle.small_tree.specs.declared.statement.VariableDeclarationKind.TheVariants as variable_kind
+use Rattle.small_tree.specs.declared.statement.Statement.{Statement}
+use Rattle.small_tree.specs.declared.statement.Statement.TheVariants as statement
+use Rattle.small_tree.specs.declared.statement.VariableDeclarator.{VariableDeclarator}
 use Rattle.prepare_core.specs.Carried.{function_with, declarator_with, call_with, member_with}
 use Rattle.std.specs.Prelude.{option_map}
-use Rattle.js_tree.proofs.Levels.{e_ParenthesizedExpression, e_ArrayExpression, e_AwaitExpression, e_FunctionExpression, s_ReturnStatement, s_ExpressionStatement, s_VariableDeclaration, function_parts, declarator_parts, e_BooleanLiteral, e_NumericLiteral, e_StringLiteral, e_Identifier, e_CallExpression, e_ObjectExpression, e_SequenceExpression, e_StaticMemberExpression}
+use Rattle.small_tree.proofs.Levels.{e_ParenthesizedExpression, e_ArrayExpression, e_AwaitExpression, e_FunctionExpression, s_ReturnStatement, s_ExpressionStatement, s_VariableDeclaration, function_parts, declarator_parts, e_BooleanLiteral, e_NumericLiteral, e_StringLiteral, e_Identifier, e_CallExpression, e_ObjectExpression, e_SequenceExpression, e_StaticMemberExpression}
 use Rattle.module_model.specs.Shape.{strings}
 
 pub identifier_made : (n : IdentifierReference) → expression_term (expression.Identifier n) ≡ identifier_of n.name

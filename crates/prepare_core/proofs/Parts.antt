@@ -1,21 +1,21 @@
 -- The parts that the statements of a module play.
 use Rattle.std.proofs.Common.{◌≡◌, refl, sym, ◌∙◌, ap, false}
 use Rattle.js_term.specs.Scope.{role, is_request}
-use Rattle.js_tree.specs.TermOf.{statement_term, declaration_term, function_word}
-use Rattle.js_tree.specs.declared.expression.Expression.{Expression}
-use Rattle.js_tree.specs.declared.function.Function.{Function}
-use Rattle.js_tree.specs.declared.function.FunctionKind.{FunctionKind}
-use Rattle.js_tree.specs.declared.function.FunctionKind.TheVariants as function_kind
-use Rattle.js_tree.specs.declared.statement.ExpressionStatement.{ExpressionStatement}
-use Rattle.js_tree.specs.declared.statement.ReturnStatement.{ReturnStatement}
-use Rattle.js_tree.specs.declared.statement.VariableDeclaration.{VariableDeclaration}
-use Rattle.js_tree.specs.declared.statement.VariableDeclarator.{VariableDeclarator}
-use Rattle.js_tree.specs.declared.statement.Statement.TheVariants as statement
-use Rattle.js_tree.specs.declared.module.Declaration.{Declaration}
-use Rattle.js_tree.specs.declared.module.Declaration.TheVariants as declaration
-use Rattle.js_tree.specs.declared.module.ImportDeclaration.{ImportDeclaration}
-use Rattle.js_tree.specs.declared.module.ExportDeclaration.{ExportDeclaration}
-use Rattle.js_tree.proofs.Levels.{d_VariableDeclaration, d_FunctionDeclaration, s_ExpressionStatement, s_ReturnStatement, s_VariableDeclaration, s_FunctionDeclaration, s_ImportDeclaration, s_ExportDeclaration, function_parts}
+use Rattle.small_tree.specs.TermOf.{statement_term, declaration_term, function_word}
+use Rattle.small_tree.specs.declared.expression.Expression.{Expression}
+use Rattle.small_tree.specs.declared.function.Function.{Function}
+use Rattle.small_tree.specs.declared.function.FunctionKind.{FunctionKind}
+use Rattle.small_tree.specs.declared.function.FunctionKind.TheVariants as function_kind
+use Rattle.small_tree.specs.declared.statement.ExpressionStatement.{ExpressionStatement}
+use Rattle.small_tree.specs.declared.statement.ReturnStatement.{ReturnStatement}
+use Rattle.small_tree.specs.declared.statement.VariableDeclaration.{VariableDeclaration}
+use Rattle.small_tree.specs.declared.statement.VariableDeclarator.{VariableDeclarator}
+use Rattle.small_tree.specs.declared.statement.Statement.TheVariants as statement
+use Rattle.small_tree.specs.declared.module.Declaration.{Declaration}
+use Rattle.small_tree.specs.declared.module.Declaration.TheVariants as declaration
+use Rattle.small_tree.specs.declared.module.ImportDeclaration.{ImportDeclaration}
+use Rattle.small_tree.specs.declared.module.ExportDeclaration.{ExportDeclaration}
+use Rattle.small_tree.proofs.Levels.{d_VariableDeclaration, d_FunctionDeclaration, s_ExpressionStatement, s_ReturnStatement, s_VariableDeclaration, s_FunctionDeclaration, s_ImportDeclaration, s_ExportDeclaration, function_parts}
 use Rattle.prepare_core.specs.Names.{is_import, is_export, is_export_role}
 
 pub effect_no_import : (n : ExpressionStatement Expression) → is_import (statement_term (statement.ExpressionStatement n)) ≡ false

@@ -3,9 +3,9 @@ use Rattle.std.proofs.Common.{◌≡◌, refl, sym, ◌∙◌, ap, List, [], ◌
 use Rattle.std.specs.List.{list_any}
 use Rattle.js_term.specs.Term.{Text, Terms, more, append, all, is_text}
 use Rattle.js_term.specs.Scope.{Env, Entry, here, plainly, declared_all, entry_of, found, module_env, all_brought, global}
-use Rattle.js_tree.specs.TermOf.{program_term, statement_term}
-use Rattle.js_tree.specs.declared.module.Program.{Program}
-use Rattle.js_tree.specs.declared.statement.Statement.{Statement}
+use Rattle.small_tree.specs.TermOf.{program_term, statement_term}
+use Rattle.small_tree.specs.declared.module.Program.{Program}
+use Rattle.small_tree.specs.declared.statement.Statement.{Statement}
 use Rattle.module_model.specs.Meaning.{requests, all_handed_out, all_kept}
 use Rattle.module_model.specs.Run.{run, run_items, spelled, written, getters, written_requests, rewritten_each}
 use Rattle.module_model.specs.Shape.{getter}

@@ -4,13 +4,13 @@
 use Rattle.std.specs.Prelude.{ℕ, suc, List, [], ◌∷◌, map, option_map, Bool, true, false, ◌&&◌, codes}
 use Rattle.js_term.specs.Term.{Text, Kind, Term, absent, list, node, Terms, none, more, two, all, maybe, flag}
 use Rattle.js_term.specs.Scope.{role, Env, inner}
-use Rattle.js_tree.specs.TermOf.{binding_term, pattern_term, parameters_term, directive_term, name_term, function_word, property_word}
-use Rattle.js_tree.specs.declared.expression.CallExpression.{CallExpression}
-use Rattle.js_tree.specs.declared.expression.Expression.{Expression}
-use Rattle.js_tree.specs.declared.expression.StaticMemberExpression.{StaticMemberExpression}
-use Rattle.js_tree.specs.declared.expression.ObjectProperty.{ObjectProperty}
-use Rattle.js_tree.specs.declared.function.Function.{Function}
-use Rattle.js_tree.specs.declared.statement.VariableDeclarator.{VariableDeclarator}
+use Rattle.small_tree.specs.TermOf.{binding_term, pattern_term, parameters_term, directive_term, name_term, function_word, property_word}
+use Rattle.small_tree.specs.declared.expression.CallExpression.{CallExpression}
+use Rattle.small_tree.specs.declared.expression.Expression.{Expression}
+use Rattle.small_tree.specs.declared.expression.StaticMemberExpression.{StaticMemberExpression}
+use Rattle.small_tree.specs.declared.expression.ObjectProperty.{ObjectProperty}
+use Rattle.small_tree.specs.declared.function.Function.{Function}
+use Rattle.small_tree.specs.declared.statement.VariableDeclarator.{VariableDeclarator}
 use Rattle.module_model.specs.Resolved.{finished, without_mark}
 use Rattle.module_model.specs.Run.{written}
 

@@ -6,10 +6,10 @@ use Rattle.std.specs.List.{list_any}
 use Rattle.js_term.specs.Term.{Text, is_text, Term, node, Terms, more, two, maybe}
 use Rattle.js_term.specs.Lexeme.{is_one_of}
 use Rattle.js_term.specs.Scope.{Role, role, Scope, Env, imported, plainly, body_names, entry_of, is_request}
-use Rattle.js_tree.specs.TermOf.{binding_term, parameters_term, body_term, statement_term}
-use Rattle.js_tree.specs.declared.function.Function.{Function}
-use Rattle.js_tree.specs.declared.function.FunctionKind.{FunctionKind}
-use Rattle.js_tree.specs.declared.function.FunctionKind.TheVariants as function_kind
+use Rattle.small_tree.specs.TermOf.{binding_term, parameters_term, body_term, statement_term}
+use Rattle.small_tree.specs.declared.function.Function.{Function}
+use Rattle.small_tree.specs.declared.function.FunctionKind.{FunctionKind}
+use Rattle.small_tree.specs.declared.function.FunctionKind.TheVariants as function_kind
 use Rattle.prepare_core.specs.declared.scopes.Import.{Import}
 
 -- some function scope has the name

@@ -1,8 +1,8 @@
 //! Parts of a tree that are kept as they are.
-ghost use Rattle.js_tree.specs.TermOf.{import_term};
+ghost use Rattle.small_tree.specs.TermOf.{import_term};
 ghost use Rattle.std.specs.Prelude.{◌≡◌, IfOk};
 
-use js_tree::{
+use small_tree::{
     BindingIdentifier, Directive, FormalParameter, ImportDeclaration, ImportSpecifier, Items,
 };
 use std::alloc::{AllocError, Global};

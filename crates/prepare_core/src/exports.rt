@@ -1,6 +1,6 @@
 //! The getters of what a module exports.
 ghost use Rattle.js_term.specs.Term.{all, append, one};
-ghost use Rattle.js_tree.specs.TermOf.{statement_term};
+ghost use Rattle.small_tree.specs.TermOf.{statement_term};
 ghost use Rattle.module_model.specs.Meaning.{handed_out, all_handed_out};
 ghost use Rattle.module_model.specs.Run.{getters};
 ghost use Rattle.prepare_core.specs.Names.{root_env};
@@ -12,7 +12,7 @@ use crate::names::push_declaration;
 use crate::scopes::Import;
 use crate::statements::as_export;
 use crate::walk::rewrite_reference;
-use js_tree::{Ident, IdentifierReference, Items, Statement};
+use small_tree::{Ident, IdentifierReference, Items, Statement};
 use std::alloc::{AllocError, Global};
 use std::collections::HashMap;
 

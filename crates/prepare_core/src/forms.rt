@@ -1,7 +1,7 @@
 //! The two forms that the runner gives a meaning: getters of exports, and requests.
 ghost use Rattle.js_term.specs.Node.{identifier_of, member_of, array_of, object_of, property_of, method_of, method_property_of, return_of, string_of, await_of, const_of};
 ghost use Rattle.js_term.specs.Term.{all, one, more};
-ghost use Rattle.js_tree.specs.TermOf.{expression_term, statement_term, property_term, function_term};
+ghost use Rattle.small_tree.specs.TermOf.{expression_term, statement_term, property_term, function_term};
 ghost use Rattle.module_model.specs.Shape.{marked, descriptor, getter, request, strings, names_argument};
 ghost use Rattle.std.specs.Prelude.{◌≡◌, ◌∷◌, [], IfOk, map, codes};
 
@@ -9,7 +9,7 @@ use crate::made::{
     MADE, call, identifier_named, import_text, member, property, string, true_property,
 };
 use crate::rebuilt::{array, awaited, effect, object, returned};
-use js_tree::{
+use small_tree::{
     BindingIdentifier, BindingPattern, Boxed, Expression, FormalParameters, Function, FunctionBody,
     FunctionKind, Ident, IdentifierName, Items, ObjectProperty, PropertyKind, Statement,
     VariableDeclaration, VariableDeclarationKind, VariableDeclarator,

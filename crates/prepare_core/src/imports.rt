@@ -1,14 +1,14 @@
 //! What the names that a module imports stand for.
 ghost use Rattle.js_term.specs.Scope.{all_brought, bound_by, brought};
 ghost use Rattle.js_term.specs.Term.{all, text_of};
-ghost use Rattle.js_tree.specs.TermOf.{export_name_term, import_term, specifier_term, statement_term};
+ghost use Rattle.small_tree.specs.TermOf.{export_name_term, import_term, specifier_term, statement_term};
 ghost use Rattle.module_model.specs.Meaning.{asked};
 ghost use Rattle.prepare_core.specs.Names.{HasImports, brought_in};
 ghost use Rattle.std.specs.Prelude.{◌≡◌, ◌++◌, ◌∷◌, ◌+◌, ◌<◌, ◌^◌, [], map, length, IfOk, OnOk};
 
 use crate::scopes::Import;
 use crate::statements::as_import;
-use js_tree::{Ident, ImportDeclaration, ImportSpecifier, ModuleExportName, Statement};
+use small_tree::{Ident, ImportDeclaration, ImportSpecifier, ModuleExportName, Statement};
 use std::alloc::{AllocError, Global};
 use std::collections::HashMap;
 

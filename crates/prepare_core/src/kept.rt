@@ -1,6 +1,6 @@
 //! What stays of a module's statements.
 ghost use Rattle.js_term.specs.Term.{all, append};
-ghost use Rattle.js_tree.specs.TermOf.{statement_term};
+ghost use Rattle.small_tree.specs.TermOf.{statement_term};
 ghost use Rattle.module_model.specs.Meaning.{kept, all_kept};
 ghost use Rattle.prepare_core.specs.Carried.{carried_each};
 ghost use Rattle.prepare_core.specs.Names.{is_import, names_env, root_env};
@@ -9,7 +9,7 @@ ghost use Rattle.std.specs.Prelude.{◌≡◌, [], false, map, OnOk};
 use crate::scopes::Import;
 use crate::statements::{as_export, as_import, declaration_statement};
 use crate::walk::{rewrite_declaration, rewrite_statement};
-use js_tree::{Ident, Items, Statement};
+use small_tree::{Ident, Items, Statement};
 use std::alloc::{AllocError, Global};
 use std::collections::{HashMap, HashSet};
 

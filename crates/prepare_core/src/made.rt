@@ -1,13 +1,13 @@
 //! The nodes that the runner makes. They stand nowhere in the text that the module was read from.
 ghost use Rattle.js_term.specs.Node.{identifier_of, string_of, member_of, call_of, property_of, boolean_of};
 ghost use Rattle.js_term.specs.Term.{all};
-ghost use Rattle.js_tree.specs.TermOf.{expression_term, property_term};
+ghost use Rattle.small_tree.specs.TermOf.{expression_term, property_term};
 ghost use Rattle.module_model.specs.Shape.{import_name, detached};
 ghost use Rattle.std.specs.Prelude.{◌≡◌, IfOk, map, true};
 
 use crate::rebuilt::sequence;
 use crate::scopes::Import;
-use js_tree::{
+use small_tree::{
     BooleanLiteral, Boxed, CallExpression, Expression, Ident, IdentifierName, IdentifierReference,
     Items, NumericLiteral, ObjectProperty, PropertyKind, Span, StaticMemberExpression,
     StringLiteral,

@@ -1,11 +1,11 @@
 ghost use Rattle.js_term.specs.Lexeme.{is_one_of};
 ghost use Rattle.js_term.specs.Scope.{declared, declared_all};
 ghost use Rattle.js_term.specs.Term.{is_text, all, maybe};
-ghost use Rattle.js_tree.specs.TermOf.{binding_term, pattern_term, parameter_term, declaration_term, statement_term, declarator_term, function_term};
+ghost use Rattle.small_tree.specs.TermOf.{binding_term, pattern_term, parameter_term, declaration_term, statement_term, declarator_term, function_term};
 ghost use Rattle.prepare_core.specs.Names.{function_names, inside, outside, IsScopeOf};
 ghost use Rattle.std.specs.Prelude.{◌≡◌, ◌++◌, ◌∷◌, [], map, option_map, IfOk, OnOk};
 
-use js_tree::{
+use small_tree::{
     BindingIdentifier, BindingPattern, Declaration, FormalParameter, Function, FunctionKind, Ident,
     Items, Statement, VariableDeclarator,
 };

@@ -1,6 +1,6 @@
 ghost use Rattle.js_term.specs.Form.{is_small, is_printable};
 ghost use Rattle.js_term.specs.Term.{all};
-ghost use Rattle.js_tree.specs.TermOf.{program_term, statement_term};
+ghost use Rattle.small_tree.specs.TermOf.{program_term, statement_term};
 ghost use Rattle.module_model.specs.Deps.{AreDeps};
 ghost use Rattle.module_model.specs.Meaning.{meaning, sources_of, all_kept};
 ghost use Rattle.module_model.specs.ReadBack.{read_back};
@@ -13,7 +13,7 @@ use crate::fault::PrepareFault;
 use crate::imports::imports_of;
 use crate::kept::push_all_kept;
 use crate::requests::{deps_of, push_requests};
-use js_tree::{Ident, Items, Program, Statement};
+use small_tree::{Ident, Items, Program, Statement};
 use std::alloc::{AllocError, Global};
 
 /// A module in the runner's forms, and the modules that it asks for, sorted by their bytes.

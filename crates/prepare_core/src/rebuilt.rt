@@ -1,12 +1,12 @@
 //! Nodes of a tree with other parts, at their places in the text.
 ghost use Rattle.js_term.specs.Node.{array_of, await_of, object_of, parenthesized_of, return_of, sequence_of, statement_of};
 ghost use Rattle.js_term.specs.Term.{all, maybe};
-ghost use Rattle.js_tree.specs.TermOf.{declarator_term, expression_term, function_term, property_term, statement_term};
+ghost use Rattle.small_tree.specs.TermOf.{declarator_term, expression_term, function_term, property_term, statement_term};
 ghost use Rattle.prepare_core.specs.Carried.{call_with, declarator_with, function_with, member_with, property_with};
 ghost use Rattle.std.specs.Prelude.{◌≡◌, IfOk, map, option_map};
 
 use crate::copies::{copy_directives, copy_id, copy_parameters};
-use js_tree::{
+use small_tree::{
     ArrayExpression, AwaitExpression, Boxed, CallExpression, Expression, ExpressionStatement,
     FormalParameters, Function, FunctionBody, Items, ObjectExpression, ObjectProperty,
     ParenthesizedExpression, ReturnStatement, SequenceExpression, Span, Statement,

@@ -1,6 +1,6 @@
 //! What a module asks for.
 ghost use Rattle.js_term.specs.Term.{all, append, maybe};
-ghost use Rattle.js_tree.specs.TermOf.{specifier_term, specifiers_term, statement_term};
+ghost use Rattle.small_tree.specs.TermOf.{specifier_term, specifiers_term, statement_term};
 ghost use Rattle.module_model.specs.Deps.{AreDeps};
 ghost use Rattle.module_model.specs.Meaning.{asked, requests, imported_by, imported_names, sources_of};
 ghost use Rattle.module_model.specs.Run.{written_requests};
@@ -12,7 +12,7 @@ ghost use Rattle.std.specs.Prelude.{◌≡◌, ◌++◌, ◌+◌, ◌<◌, ◌^�
 use crate::forms::request;
 use crate::imports::exported_name;
 use crate::statements::as_import;
-use js_tree::{Ident, ImportSpecifier, Items, Statement};
+use small_tree::{Ident, ImportSpecifier, Items, Statement};
 use std::alloc::{AllocError, Global};
 use std::collections::BTreeSet;
 

@@ -5,7 +5,7 @@ ghost use Rattle.module_model.specs.Run.{written};
 ghost use Rattle.prepare_core.specs.Names.{hidden, names_env};
 ghost use Rattle.std.specs.Prelude.{◌≡◌, MatchOption, Some};
 
-use js_tree::Ident;
+use small_tree::Ident;
 use std::collections::{HashMap, HashSet};
 
 /// What an imported name stands for: a name that a request exports.

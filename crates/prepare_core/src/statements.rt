@@ -1,9 +1,9 @@
 //! The parts that the statements of a module play.
-ghost use Rattle.js_tree.specs.TermOf.{statement_term, declaration_term};
+ghost use Rattle.small_tree.specs.TermOf.{statement_term, declaration_term};
 ghost use Rattle.prepare_core.specs.Names.{is_import, is_export};
 ghost use Rattle.std.specs.Prelude.{◌≡◌, false, MatchOption};
 
-use js_tree::{Declaration, ExportDeclaration, ImportDeclaration, Statement};
+use small_tree::{Declaration, ExportDeclaration, ImportDeclaration, Statement};
 
 #[tactic(auto, using(crate::proofs::Parts::effect_no_import, crate::proofs::Parts::return_no_import, crate::proofs::Parts::variables_no_import, crate::proofs::Parts::function_no_import, crate::proofs::Parts::export_no_import))]
 pub(crate) fn as_import(s: &Statement) -> Option<&ImportDeclaration>

@@ -1,6 +1,6 @@
 //! A tree with each imported name written as the member of its request. The tree is made anew beside the old one.
 ghost use Rattle.js_term.specs.Node.{identifier_of};
-ghost use Rattle.js_tree.specs.TermOf.{expression_term, statement_term, declaration_term, declarator_term, function_term, property_term};
+ghost use Rattle.small_tree.specs.TermOf.{expression_term, statement_term, declaration_term, declarator_term, function_term, property_term};
 ghost use Rattle.module_model.specs.Resolved.{in_callee, is_reference};
 ghost use Rattle.module_model.specs.Run.{written};
 ghost use Rattle.prepare_core.specs.Carried.{carried};
@@ -15,7 +15,7 @@ use crate::rebuilt::{
     with_declarators, with_init, with_object, with_statements, with_value,
 };
 use crate::scopes::{Import, find_import};
-use js_tree::{
+use small_tree::{
     Boxed, Declaration, ExportDeclaration, Expression, Function, Ident, IdentifierReference, Items,
     ObjectProperty, Statement, VariableDeclarator,
 };

@@ -2,7 +2,7 @@ ghost use Rattle.std.specs.Prelude.{◌≡◌, List, ℕ, ◌∷◌, [], map, If
 ghost use Rattle.std.specs.Fn.{CalledAt};
 ghost use Rattle.std.specs.List.{FoldsTo};
 
-use js_tree::{BindingIdentifier, IdentifierName, IdentifierReference};
+use small_tree::{BindingIdentifier, IdentifierName, IdentifierReference};
 
 /// A node that has parts of which a name can be made.
 pub trait GatherNodeParts {

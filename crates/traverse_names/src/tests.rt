@@ -1,6 +1,6 @@
 use crate::{JoinedParts, UidFault, UidGenerator, get_var_name_from_node, to_identifier};
 use js_ident::Ident;
-use js_tree::{IdentifierName, Span};
+use small_tree::{IdentifierName, Span};
 use std::alloc::Global;
 use std::process::Abort;
 use std::test::Fail;

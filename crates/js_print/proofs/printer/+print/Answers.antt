@@ -1,6 +1,6 @@
 use Rattle.std.proofs.Common.{ap, ◌∙◌, ◌++◌, sym, string_bytes, arith}
 use Rattle.std.specs.Prelude.{codes}
-use Rattle.js_tree.specs.TermOf.{expression_term, statement_term, declarator_term, property_term}
+use Rattle.small_tree.specs.TermOf.{expression_term, statement_term, declarator_term, property_term}
 use Rattle.js_print.specs.Layout.{printed, wrapped, at_level, in_parentheses, is_looser}
 use Rattle.js_print.proofs.Rows.{item_printed, held_expression, property_printed, needs_parentheses}
 use Rattle.js_print.proofs.StatementRows.{function_printed}

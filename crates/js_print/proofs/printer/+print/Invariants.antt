@@ -1,6 +1,6 @@
 use Rattle.std.proofs.Common.{◌≡◌, ◌++◌, take, map, string_bytes}
 use Rattle.std.specs.Prelude.{codes}
-use Rattle.js_tree.specs.TermOf.{expression_term, statement_term, declarator_term, property_term}
+use Rattle.small_tree.specs.TermOf.{expression_term, statement_term, declarator_term, property_term}
 use Rattle.js_print.specs.Layout.{printed, wrapped, commas, separated, at_level}
 use Rattle.js_print.proofs.printer.+print.Given as goal
 

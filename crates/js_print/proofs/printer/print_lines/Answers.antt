@@ -1,5 +1,5 @@
 use Rattle.std.proofs.Common.{string_bytes, arith}
-use Rattle.js_tree.specs.TermOf.{statement_term}
+use Rattle.small_tree.specs.TermOf.{statement_term}
 use Rattle.js_print.specs.Layout.{printed, wrapped}
 use Rattle.js_print.proofs.Rows.{line_printed}
 use Rattle.js_print.proofs.printer.print_lines.Goals as goal

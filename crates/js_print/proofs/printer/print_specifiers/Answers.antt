@@ -1,6 +1,6 @@
 use Rattle.std.proofs.Common.{string_bytes, arith}
 use Rattle.std.specs.Prelude.{codes}
-use Rattle.js_tree.specs.TermOf.{specifier_term}
+use Rattle.small_tree.specs.TermOf.{specifier_term}
 use Rattle.js_print.specs.Layout.{printed, wrapped}
 use Rattle.js_print.proofs.Rows.{item_printed}
 use Rattle.js_print.proofs.printer.print_specifiers.Goals as goal

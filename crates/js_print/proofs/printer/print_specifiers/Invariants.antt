@@ -1,5 +1,5 @@
 use Rattle.std.proofs.Common.{◌≡◌, ◌++◌, take, map, string_bytes}
-use Rattle.js_tree.specs.TermOf.{specifier_term}
+use Rattle.small_tree.specs.TermOf.{specifier_term}
 use Rattle.js_print.specs.Layout.{printed, wrapped, commas}
 use Rattle.js_print.proofs.printer.print_specifiers.Given as goal
 

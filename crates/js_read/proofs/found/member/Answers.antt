@@ -1,7 +1,7 @@
 use Rattle.std.proofs.Common.{false, refl, ap, arith}
 use Rattle.js_term.specs.Term.{depth}
-use Rattle.js_tree.specs.declared.expression.StaticMemberExpression.{StaticMemberExpression}
-use Rattle.js_tree.specs.declared.expression.Expression.{Expression}
+use Rattle.small_tree.specs.declared.expression.StaticMemberExpression.{StaticMemberExpression}
+use Rattle.small_tree.specs.declared.expression.Expression.{Expression}
 use Rattle.js_read.proofs.Trees.{member_seen}
 use Rattle.js_read.proofs.found.member.Goals as goal
 

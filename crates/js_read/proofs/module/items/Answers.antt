@@ -1,6 +1,6 @@
 use Rattle.std.proofs.Common.{rules, arith, map}
 use Rattle.std.proofs.lemmas.Grind.{common_steps}
-use Rattle.js_tree.specs.TermOf.{statement_term}
+use Rattle.small_tree.specs.TermOf.{statement_term}
 use Rattle.js_read.specs.Read.{items}
 use Rattle.js_read.proofs.Turns.{one_more, no_more, map_snoc}
 use Rattle.js_read.proofs.module.items.Goals as goal

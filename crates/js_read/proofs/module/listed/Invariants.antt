@@ -1,5 +1,5 @@
 use Rattle.std.proofs.Common.{◌≡◌, ◌-◌, [], length, map}
-use Rattle.js_tree.specs.TermOf.{specifier_term}
+use Rattle.small_tree.specs.TermOf.{specifier_term}
 use Rattle.js_read.specs.Read.{separated, specifier}
 use Rattle.js_read.proofs.module.listed.Given as goal
 

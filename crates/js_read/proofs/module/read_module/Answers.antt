@@ -1,6 +1,6 @@
 use Rattle.std.proofs.Common.{rules, arith, sym, ◌∙◌}
 use Rattle.std.proofs.lemmas.Grind.{common_steps}
-use Rattle.js_tree.specs.TermOf.{program_term}
+use Rattle.small_tree.specs.TermOf.{program_term}
 use Rattle.js_read.proofs.CompleteModules.{small_unique, unread, unread_large}
 use Rattle.js_read.proofs.SoundModules.{read_spelled}
 use Rattle.js_read.proofs.module.read_module.Goals as goal

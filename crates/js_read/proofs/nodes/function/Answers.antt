@@ -1,7 +1,7 @@
 use Rattle.std.proofs.Common.{◌∙◌, ap, refl}
-use Rattle.js_tree.specs.TermOf.{declaration_term}
-use Rattle.js_tree.specs.declared.function.Function.{Function}
-use Rattle.js_tree.specs.declared.module.Declaration.TheVariants as declaration
+use Rattle.small_tree.specs.TermOf.{declaration_term}
+use Rattle.small_tree.specs.declared.function.Function.{Function}
+use Rattle.small_tree.specs.declared.module.Declaration.TheVariants as declaration
 use Rattle.js_read.proofs.Trees.{function_seen}
 use Rattle.js_read.proofs.nodes.function.Goals as goal
 

@@ -1,5 +1,5 @@
 use Rattle.std.proofs.Common.{Some, ap}
-use Rattle.js_tree.specs.declared.expression.Expression.{Expression}
+use Rattle.small_tree.specs.declared.expression.Expression.{Expression}
 use Rattle.js_read.proofs.Trees.{return_seen}
 use Rattle.js_read.proofs.nodes.returned.Goals as goal
 

@@ -1,6 +1,6 @@
 use Rattle.std.proofs.Common.{rules, arith, map}
 use Rattle.std.proofs.lemmas.Grind.{common_steps}
-use Rattle.js_tree.specs.declared.function.BindingPattern.TheVariants as pattern
+use Rattle.small_tree.specs.declared.function.BindingPattern.TheVariants as pattern
 use Rattle.js_read.specs.Nests.{parameter_name}
 use Rattle.js_read.specs.Read.{separated, binding}
 use Rattle.js_read.proofs.Turns.{one_more, no_more, map_snoc}

@@ -1,7 +1,7 @@
 use Rattle.std.proofs.Common.{◌≡◌, drop, map}
 use Rattle.js_term.specs.Term.{all}
 use Rattle.js_term.specs.Form.{one, Sort}
-use Rattle.js_tree.specs.TermOf.{expression_term}
+use Rattle.small_tree.specs.TermOf.{expression_term}
 use Rattle.js_small.specs.Small.{small_each}
 use Rattle.js_small.proofs.form.+expression.Given as goal
 

@@ -1,6 +1,6 @@
 use Rattle.std.proofs.Common.{◌≡◌, take, map}
 use Rattle.js_term.specs.Term.{all}
-use Rattle.js_tree.specs.TermOf.{statement_term}
+use Rattle.small_tree.specs.TermOf.{statement_term}
 use Rattle.module_model.specs.Meaning.{all_handed_out}
 use Rattle.prepare_core.proofs.exports.exported.Given as goal
 

@@ -1,6 +1,6 @@
 use Rattle.std.proofs.Common.{◌≡◌, take, map}
 use Rattle.js_term.specs.Term.{all, append}
-use Rattle.js_tree.specs.TermOf.{statement_term}
+use Rattle.small_tree.specs.TermOf.{statement_term}
 use Rattle.module_model.specs.Run.{getters}
 use Rattle.prepare_core.specs.Names.{root_env}
 use Rattle.prepare_core.proofs.exports.push_getters.Given as goal

@@ -1,6 +1,6 @@
 use Rattle.std.proofs.Common.{◌≡◌, take, map}
 use Rattle.js_term.specs.Term.{all}
-use Rattle.js_tree.specs.TermOf.{expression_term}
+use Rattle.small_tree.specs.TermOf.{expression_term}
 use Rattle.module_model.specs.Shape.{strings}
 use Rattle.prepare_core.proofs.forms.names_array.Given as goal
 

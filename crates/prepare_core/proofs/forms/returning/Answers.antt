@@ -1,6 +1,6 @@
 use Rattle.std.proofs.Common.{refl, ◌∙◌, ap}
 use Rattle.js_term.specs.Node.{return_of}
-use Rattle.js_tree.specs.TermOf.{expression_term}
+use Rattle.small_tree.specs.TermOf.{expression_term}
 use Rattle.prepare_core.proofs.Nodes.{method_made}
 use Rattle.prepare_core.proofs.forms.returning.Goals as goal
 

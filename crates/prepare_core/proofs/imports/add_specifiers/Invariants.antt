@@ -1,7 +1,7 @@
 use Rattle.std.proofs.Common.{◌++◌, take, map}
 use Rattle.js_term.specs.Scope.{bound_by}
 use Rattle.js_term.specs.Term.{all}
-use Rattle.js_tree.specs.TermOf.{specifier_term}
+use Rattle.small_tree.specs.TermOf.{specifier_term}
 use Rattle.prepare_core.specs.Names.{HasImports, brought_in}
 use Rattle.prepare_core.proofs.imports.add_specifiers.Given as goal
 

@@ -1,7 +1,7 @@
 use Rattle.std.proofs.Common.{◌≡◌, take, map, length}
 use Rattle.js_term.specs.Scope.{all_brought}
 use Rattle.js_term.specs.Term.{all}
-use Rattle.js_tree.specs.TermOf.{statement_term}
+use Rattle.small_tree.specs.TermOf.{statement_term}
 use Rattle.module_model.specs.Meaning.{requests}
 use Rattle.prepare_core.specs.Names.{HasImports}
 use Rattle.prepare_core.proofs.imports.imports_of.Given as goal

@@ -1,6 +1,6 @@
 use Rattle.std.proofs.Common.{sym, ◌∙◌, arith, map}
 use Rattle.js_term.specs.Term.{all}
-use Rattle.js_tree.specs.TermOf.{statement_term}
+use Rattle.small_tree.specs.TermOf.{statement_term}
 use Rattle.prepare_core.specs.Names.{root_env}
 use Rattle.prepare_core.proofs.Asked.{append_none, kept_next}
 use Rattle.prepare_core.proofs.kept.push_all_kept.Goals as goal

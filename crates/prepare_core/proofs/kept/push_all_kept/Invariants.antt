@@ -1,6 +1,6 @@
 use Rattle.std.proofs.Common.{◌≡◌, [], take, map}
 use Rattle.js_term.specs.Term.{all, append}
-use Rattle.js_tree.specs.TermOf.{statement_term}
+use Rattle.small_tree.specs.TermOf.{statement_term}
 use Rattle.module_model.specs.Meaning.{all_kept}
 use Rattle.prepare_core.specs.Carried.{carried_each}
 use Rattle.prepare_core.specs.Names.{root_env}

@@ -1,6 +1,6 @@
 use Rattle.std.proofs.Common.{◌∙◌}
 use Rattle.std.proofs.lemmas.Result.{on_ok_weaker}
-use Rattle.js_tree.specs.TermOf.{statement_term}
+use Rattle.small_tree.specs.TermOf.{statement_term}
 use Rattle.prepare_core.specs.Names.{names_env}
 use Rattle.prepare_core.proofs.Asked.{other_kept, export_kept}
 use Rattle.prepare_core.proofs.kept.push_other.Goals as goal

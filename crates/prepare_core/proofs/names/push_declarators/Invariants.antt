@@ -1,7 +1,7 @@
 use Rattle.std.proofs.Common.{◌≡◌, ◌++◌, take, map}
 use Rattle.js_term.specs.Term.{all}
 use Rattle.js_term.specs.Scope.{declared_all}
-use Rattle.js_tree.specs.TermOf.{declarator_term}
+use Rattle.small_tree.specs.TermOf.{declarator_term}
 use Rattle.prepare_core.proofs.names.push_declarators.Given as goal
 
 abbrev pub invariant-loop-one : goal.invariant-loop-one

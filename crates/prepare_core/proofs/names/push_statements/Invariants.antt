@@ -1,7 +1,7 @@
 use Rattle.std.proofs.Common.{◌≡◌, ◌++◌, take, map}
 use Rattle.js_term.specs.Term.{all}
 use Rattle.js_term.specs.Scope.{declared_all}
-use Rattle.js_tree.specs.TermOf.{statement_term}
+use Rattle.small_tree.specs.TermOf.{statement_term}
 use Rattle.prepare_core.proofs.names.push_statements.Given as goal
 
 abbrev pub invariant-loop-one : goal.invariant-loop-one

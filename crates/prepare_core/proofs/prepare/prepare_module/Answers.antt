@@ -2,7 +2,7 @@ use Rattle.std.proofs.Common.{ap, ◌∙◌, map, arith, length, ◌<◌, ◌^�
 use Rattle.std.proofs.lemmas.Bool.{and_parts}
 use Rattle.js_term.specs.Form.{items_of, has_small_form, has_distinct_names, is_printable}
 use Rattle.js_term.specs.Term.{all}
-use Rattle.js_tree.specs.TermOf.{program_term, statement_term}
+use Rattle.small_tree.specs.TermOf.{program_term, statement_term}
 use Rattle.module_model.specs.Meaning.{requests}
 use Rattle.module_model.specs.ReadBack.{read_back}
 use Rattle.module_model.proofs.Output.{run_means}

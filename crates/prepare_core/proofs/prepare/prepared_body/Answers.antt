@@ -1,6 +1,6 @@
 use Rattle.std.proofs.Common.{map}
 use Rattle.js_term.specs.Term.{all}
-use Rattle.js_tree.specs.TermOf.{statement_term}
+use Rattle.small_tree.specs.TermOf.{statement_term}
 use Rattle.prepare_core.proofs.Whole.{items_written}
 use Rattle.prepare_core.proofs.prepare.prepared_body.Goals as goal
 

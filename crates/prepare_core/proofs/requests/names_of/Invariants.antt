@@ -1,6 +1,6 @@
 use Rattle.std.proofs.Common.{◌≡◌, take, map}
 use Rattle.js_term.specs.Term.{all}
-use Rattle.js_tree.specs.TermOf.{specifier_term}
+use Rattle.small_tree.specs.TermOf.{specifier_term}
 use Rattle.module_model.specs.Meaning.{imported_by}
 use Rattle.prepare_core.proofs.requests.names_of.Given as goal
 

@@ -1,4 +1,4 @@
-use Rattle.js_tree.specs.TermOf.{statement_term}
+use Rattle.small_tree.specs.TermOf.{statement_term}
 use Rattle.prepare_core.proofs.Asked.{no_request, one_request}
 use Rattle.prepare_core.proofs.requests.push_request.Goals as goal
 

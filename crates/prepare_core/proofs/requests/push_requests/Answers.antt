@@ -1,7 +1,7 @@
 use Rattle.std.proofs.Common.{refl, sym, arith, map, take}
 use Rattle.std.proofs.lemmas.List.{length-take-le}
 use Rattle.js_term.specs.Term.{all}
-use Rattle.js_tree.specs.TermOf.{statement_term}
+use Rattle.small_tree.specs.TermOf.{statement_term}
 use Rattle.prepare_core.proofs.Brought.{number_next, requests_few}
 use Rattle.prepare_core.proofs.Asked.{append_none, requests_next}
 use Rattle.prepare_core.proofs.requests.push_requests.Goals as goal

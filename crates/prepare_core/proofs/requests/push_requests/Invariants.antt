@@ -1,6 +1,6 @@
 use Rattle.std.proofs.Common.{◌≡◌, take, map, length}
 use Rattle.js_term.specs.Term.{all, append}
-use Rattle.js_tree.specs.TermOf.{statement_term}
+use Rattle.small_tree.specs.TermOf.{statement_term}
 use Rattle.module_model.specs.Meaning.{requests}
 use Rattle.module_model.specs.Run.{written_requests}
 use Rattle.prepare_core.proofs.requests.push_requests.Given as goal

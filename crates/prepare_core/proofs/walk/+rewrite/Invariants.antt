@@ -1,5 +1,5 @@
 use Rattle.std.proofs.Common.{◌≡◌, take, map}
-use Rattle.js_tree.specs.TermOf.{expression_term, statement_term, declarator_term, property_term}
+use Rattle.small_tree.specs.TermOf.{expression_term, statement_term, declarator_term, property_term}
 use Rattle.prepare_core.specs.Carried.{carried}
 use Rattle.prepare_core.specs.Names.{names_env}
 use Rattle.prepare_core.proofs.walk.+rewrite.Given as goal

@@ -1,6 +1,6 @@
 use Rattle.std.proofs.Common.{rules, arith, map}
 use Rattle.std.proofs.lemmas.Grind.{common_steps}
-use Rattle.js_tree.specs.TermOf.{expression_term}
+use Rattle.small_tree.specs.TermOf.{expression_term}
 use Rattle.js_read.specs.Read.{separated, read}
 use Rattle.js_read.proofs.Turns.{one_more, no_more, depths_snoc, map_snoc}
 use Rattle.js_read.proofs.expression.Grammar.items.Goals as goal

@@ -1,6 +1,6 @@
 use Rattle.std.proofs.Common.{◌≡◌, ◌≤◌, ◌-◌, [], length, map}
 use Rattle.js_term.specs.Term.{depths, all}
-use Rattle.js_tree.specs.TermOf.{expression_term}
+use Rattle.small_tree.specs.TermOf.{expression_term}
 use Rattle.js_read.specs.Read.{separated, read}
 use Rattle.js_read.proofs.expression.Grammar.items.Given as goal
 

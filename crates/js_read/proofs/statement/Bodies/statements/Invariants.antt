@@ -1,5 +1,5 @@
 use Rattle.std.proofs.Common.{◌≡◌, ◌-◌, [], length, map}
-use Rattle.js_tree.specs.TermOf.{statement_term}
+use Rattle.small_tree.specs.TermOf.{statement_term}
 use Rattle.js_read.specs.Read.{statement, statements}
 use Rattle.js_read.proofs.statement.Bodies.statements.Given as goal
 

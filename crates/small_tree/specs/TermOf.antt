@@ -2,46 +2,46 @@
 use Rattle.std.specs.Prelude.{List, [], ◌∷◌, Option, None, Some, option_map, map, Bool, true, false, codes}
 use Rattle.js_term.specs.Term.{Text, is_text, Kind, Term, absent, list, node, none, more, one, two, all, maybe, flag}
 use Rattle.js_term.specs.Node.{truth}
-use Rattle.js_tree.specs.declared.id.IdentifierName.{IdentifierName}
-use Rattle.js_tree.specs.declared.id.IdentifierReference.{IdentifierReference}
-use Rattle.js_tree.specs.declared.id.BindingIdentifier.{BindingIdentifier}
-use Rattle.js_tree.specs.declared.expression.BooleanLiteral.{BooleanLiteral}
-use Rattle.js_tree.specs.declared.expression.NumericLiteral.{NumericLiteral}
-use Rattle.js_tree.specs.declared.expression.StringLiteral.{StringLiteral}
-use Rattle.js_tree.specs.declared.expression.CallExpression.{CallExpression}
-use Rattle.js_tree.specs.declared.expression.StaticMemberExpression.{StaticMemberExpression}
-use Rattle.js_tree.specs.declared.expression.SequenceExpression.{SequenceExpression}
-use Rattle.js_tree.specs.declared.expression.AwaitExpression.{AwaitExpression}
-use Rattle.js_tree.specs.declared.expression.ArrayExpression.{ArrayExpression}
-use Rattle.js_tree.specs.declared.expression.ObjectProperty.{ObjectProperty}
-use Rattle.js_tree.specs.declared.expression.ObjectExpression.{ObjectExpression}
-use Rattle.js_tree.specs.declared.expression.ParenthesizedExpression.{ParenthesizedExpression}
-use Rattle.js_tree.specs.declared.expression.PropertyKind.{PropertyKind}
-use Rattle.js_tree.specs.declared.function.Directive.{Directive}
-use Rattle.js_tree.specs.declared.function.FunctionBody.{FunctionBody}
-use Rattle.js_tree.specs.declared.function.BindingPattern.{BindingPattern}
-use Rattle.js_tree.specs.declared.function.FormalParameter.{FormalParameter}
-use Rattle.js_tree.specs.declared.function.FormalParameters.{FormalParameters}
-use Rattle.js_tree.specs.declared.function.FunctionKind.{FunctionKind}
-use Rattle.js_tree.specs.declared.statement.ExpressionStatement.{ExpressionStatement}
-use Rattle.js_tree.specs.declared.statement.ReturnStatement.{ReturnStatement}
-use Rattle.js_tree.specs.declared.statement.VariableDeclarationKind.{VariableDeclarationKind}
-use Rattle.js_tree.specs.declared.statement.VariableDeclaration.{VariableDeclaration}
-use Rattle.js_tree.specs.declared.module.ModuleExportName.{ModuleExportName}
-use Rattle.js_tree.specs.declared.module.ImportSpecifier.{ImportSpecifier}
-use Rattle.js_tree.specs.declared.module.ImportDeclaration.{ImportDeclaration}
-use Rattle.js_tree.specs.declared.module.ExportDeclaration.{ExportDeclaration}
-use Rattle.js_tree.specs.declared.module.Program.{Program}
-use Rattle.js_tree.specs.declared.expression.PropertyKind.TheVariants as property_kind
-use Rattle.js_tree.specs.declared.function.BindingPattern.TheVariants as binding_pattern
-use Rattle.js_tree.specs.declared.function.FunctionKind.TheVariants as function_kind
-use Rattle.js_tree.specs.declared.statement.VariableDeclarationKind.TheVariants as variable_kind
-use Rattle.js_tree.specs.declared.module.ModuleExportName.TheVariants as export_name
-use Rattle.js_tree.specs.declared.function.Function.{Function, Function-F, fold-Function}
-use Rattle.js_tree.specs.declared.statement.VariableDeclarator.{VariableDeclarator, VariableDeclarator-F, fold-VariableDeclarator}
-use Rattle.js_tree.specs.declared.expression.Expression.{Expression, Expression-F, fold-Expression}
-use Rattle.js_tree.specs.declared.module.Declaration.{Declaration, Declaration-F, fold-Declaration}
-use Rattle.js_tree.specs.declared.statement.Statement.{Statement, Statement-F, fold-Statement}
+use Rattle.small_tree.specs.declared.id.IdentifierName.{IdentifierName}
+use Rattle.small_tree.specs.declared.id.IdentifierReference.{IdentifierReference}
+use Rattle.small_tree.specs.declared.id.BindingIdentifier.{BindingIdentifier}
+use Rattle.small_tree.specs.declared.expression.BooleanLiteral.{BooleanLiteral}
+use Rattle.small_tree.specs.declared.expression.NumericLiteral.{NumericLiteral}
+use Rattle.small_tree.specs.declared.expression.StringLiteral.{StringLiteral}
+use Rattle.small_tree.specs.declared.expression.CallExpression.{CallExpression}
+use Rattle.small_tree.specs.declared.expression.StaticMemberExpression.{StaticMemberExpression}
+use Rattle.small_tree.specs.declared.expression.SequenceExpression.{SequenceExpression}
+use Rattle.small_tree.specs.declared.expression.AwaitExpression.{AwaitExpression}
+use Rattle.small_tree.specs.declared.expression.ArrayExpression.{ArrayExpression}
+use Rattle.small_tree.specs.declared.expression.ObjectProperty.{ObjectProperty}
+use Rattle.small_tree.specs.declared.expression.ObjectExpression.{ObjectExpression}
+use Rattle.small_tree.specs.declared.expression.ParenthesizedExpression.{ParenthesizedExpression}
+use Rattle.small_tree.specs.declared.expression.PropertyKind.{PropertyKind}
+use Rattle.small_tree.specs.declared.function.Directive.{Directive}
+use Rattle.small_tree.specs.declared.function.FunctionBody.{FunctionBody}
+use Rattle.small_tree.specs.declared.function.BindingPattern.{BindingPattern}
+use Rattle.small_tree.specs.declared.function.FormalParameter.{FormalParameter}
+use Rattle.small_tree.specs.declared.function.FormalParameters.{FormalParameters}
+use Rattle.small_tree.specs.declared.function.FunctionKind.{FunctionKind}
+use Rattle.small_tree.specs.declared.statement.ExpressionStatement.{ExpressionStatement}
+use Rattle.small_tree.specs.declared.statement.ReturnStatement.{ReturnStatement}
+use Rattle.small_tree.specs.declared.statement.VariableDeclarationKind.{VariableDeclarationKind}
+use Rattle.small_tree.specs.declared.statement.VariableDeclaration.{VariableDeclaration}
+use Rattle.small_tree.specs.declared.module.ModuleExportName.{ModuleExportName}
+use Rattle.small_tree.specs.declared.module.ImportSpecifier.{ImportSpecifier}
+use Rattle.small_tree.specs.declared.module.ImportDeclaration.{ImportDeclaration}
+use Rattle.small_tree.specs.declared.module.ExportDeclaration.{ExportDeclaration}
+use Rattle.small_tree.specs.declared.module.Program.{Program}
+use Rattle.small_tree.specs.declared.expression.PropertyKind.TheVariants as property_kind
+use Rattle.small_tree.specs.declared.function.BindingPattern.TheVariants as binding_pattern
+use Rattle.small_tree.specs.declared.function.FunctionKind.TheVariants as function_kind
+use Rattle.small_tree.specs.declared.statement.VariableDeclarationKind.TheVariants as variable_kind
+use Rattle.small_tree.specs.declared.module.ModuleExportName.TheVariants as export_name
+use Rattle.small_tree.specs.declared.function.Function.{Function, Function-F, fold-Function}
+use Rattle.small_tree.specs.declared.statement.VariableDeclarator.{VariableDeclarator, VariableDeclarator-F, fold-VariableDeclarator}
+use Rattle.small_tree.specs.declared.expression.Expression.{Expression, Expression-F, fold-Expression}
+use Rattle.small_tree.specs.declared.module.Declaration.{Declaration, Declaration-F, fold-Declaration}
+use Rattle.small_tree.specs.declared.statement.Statement.{Statement, Statement-F, fold-Statement}
 
 -- the leaves
 

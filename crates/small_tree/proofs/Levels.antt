@@ -3,33 +3,33 @@
 use Rattle.std.proofs.Common.{◌≡◌, refl, sym, subst, ap, ◌∙◌, List, [], ◌∷◌, Option, None, Some, map, codes}
 use Rattle.std.specs.Prelude.{option_map}
 use Rattle.js_term.specs.Term.{Text, Term, Kind, list, node, Terms, more, one, two, all, maybe, flag}
-use Rattle.js_tree.specs.TermOf.{itself, reference_term, binding_term, string_term, number_term, boolean_term, pattern_term, parameters_term, import_term, variable_word, call_term, member_term, sequence_term, await_term, array_term, property_term, object_term, parenthesized_term, body_term, variables_term, return_term, effect_term, export_term, function_word, expression_level, declaration_level, statement_level, function_level, declarator_level, expression_step, declaration_step, statement_step, function_step, declarator_step, expression_term, declaration_term, statement_term, function_term, declarator_term}
-use Rattle.js_tree.specs.declared.id.Span.{Span}
-use Rattle.js_tree.specs.declared.id.IdentifierReference.{IdentifierReference}
-use Rattle.js_tree.specs.declared.expression.BooleanLiteral.{BooleanLiteral}
-use Rattle.js_tree.specs.declared.expression.NumericLiteral.{NumericLiteral}
-use Rattle.js_tree.specs.declared.expression.StringLiteral.{StringLiteral}
-use Rattle.js_tree.specs.declared.expression.CallExpression.{CallExpression}
-use Rattle.js_tree.specs.declared.expression.StaticMemberExpression.{StaticMemberExpression}
-use Rattle.js_tree.specs.declared.expression.SequenceExpression.{SequenceExpression}
-use Rattle.js_tree.specs.declared.expression.AwaitExpression.{AwaitExpression}
-use Rattle.js_tree.specs.declared.expression.ArrayExpression.{ArrayExpression}
-use Rattle.js_tree.specs.declared.expression.ObjectProperty.{ObjectProperty}
-use Rattle.js_tree.specs.declared.expression.ObjectExpression.{ObjectExpression}
-use Rattle.js_tree.specs.declared.expression.ParenthesizedExpression.{ParenthesizedExpression}
-use Rattle.js_tree.specs.declared.statement.ExpressionStatement.{ExpressionStatement}
-use Rattle.js_tree.specs.declared.statement.ReturnStatement.{ReturnStatement}
-use Rattle.js_tree.specs.declared.statement.VariableDeclaration.{VariableDeclaration}
-use Rattle.js_tree.specs.declared.module.ImportDeclaration.{ImportDeclaration}
-use Rattle.js_tree.specs.declared.module.ExportDeclaration.{ExportDeclaration}
-use Rattle.js_tree.specs.declared.expression.Expression.{Expression, Expression-F, out-Expression, map-Expression, fold_out-Expression}
-use Rattle.js_tree.specs.declared.module.Declaration.{Declaration, Declaration-F, out-Declaration, map-Declaration, fold_out-Declaration}
-use Rattle.js_tree.specs.declared.statement.Statement.{Statement, Statement-F, out-Statement, map-Statement, fold_out-Statement}
-use Rattle.js_tree.specs.declared.function.Function.{Function, Function-F, out-Function, map-Function, fold_out-Function}
-use Rattle.js_tree.specs.declared.statement.VariableDeclarator.{VariableDeclarator, VariableDeclarator-F, out-VariableDeclarator, map-VariableDeclarator, fold_out-VariableDeclarator}
-use Rattle.js_tree.specs.declared.expression.Expression.TheVariants as expression
-use Rattle.js_tree.specs.declared.module.Declaration.TheVariants as declaration
-use Rattle.js_tree.specs.declared.statement.Statement.TheVariants as statement
+use Rattle.small_tree.specs.TermOf.{itself, reference_term, binding_term, string_term, number_term, boolean_term, pattern_term, parameters_term, import_term, variable_word, call_term, member_term, sequence_term, await_term, array_term, property_term, object_term, parenthesized_term, body_term, variables_term, return_term, effect_term, export_term, function_word, expression_level, declaration_level, statement_level, function_level, declarator_level, expression_step, declaration_step, statement_step, function_step, declarator_step, expression_term, declaration_term, statement_term, function_term, declarator_term}
+use Rattle.small_tree.specs.declared.id.Span.{Span}
+use Rattle.small_tree.specs.declared.id.IdentifierReference.{IdentifierReference}
+use Rattle.small_tree.specs.declared.expression.BooleanLiteral.{BooleanLiteral}
+use Rattle.small_tree.specs.declared.expression.NumericLiteral.{NumericLiteral}
+use Rattle.small_tree.specs.declared.expression.StringLiteral.{StringLiteral}
+use Rattle.small_tree.specs.declared.expression.CallExpression.{CallExpression}
+use Rattle.small_tree.specs.declared.expression.StaticMemberExpression.{StaticMemberExpression}
+use Rattle.small_tree.specs.declared.expression.SequenceExpression.{SequenceExpression}
+use Rattle.small_tree.specs.declared.expression.AwaitExpression.{AwaitExpression}
+use Rattle.small_tree.specs.declared.expression.ArrayExpression.{ArrayExpression}
+use Rattle.small_tree.specs.declared.expression.ObjectProperty.{ObjectProperty}
+use Rattle.small_tree.specs.declared.expression.ObjectExpression.{ObjectExpression}
+use Rattle.small_tree.specs.declared.expression.ParenthesizedExpression.{ParenthesizedExpression}
+use Rattle.small_tree.specs.declared.statement.ExpressionStatement.{ExpressionStatement}
+use Rattle.small_tree.specs.declared.statement.ReturnStatement.{ReturnStatement}
+use Rattle.small_tree.specs.declared.statement.VariableDeclaration.{VariableDeclaration}
+use Rattle.small_tree.specs.declared.module.ImportDeclaration.{ImportDeclaration}
+use Rattle.small_tree.specs.declared.module.ExportDeclaration.{ExportDeclaration}
+use Rattle.small_tree.specs.declared.expression.Expression.{Expression, Expression-F, out-Expression, map-Expression, fold_out-Expression}
+use Rattle.small_tree.specs.declared.module.Declaration.{Declaration, Declaration-F, out-Declaration, map-Declaration, fold_out-Declaration}
+use Rattle.small_tree.specs.declared.statement.Statement.{Statement, Statement-F, out-Statement, map-Statement, fold_out-Statement}
+use Rattle.small_tree.specs.declared.function.Function.{Function, Function-F, out-Function, map-Function, fold_out-Function}
+use Rattle.small_tree.specs.declared.statement.VariableDeclarator.{VariableDeclarator, VariableDeclarator-F, out-VariableDeclarator, map-VariableDeclarator, fold_out-VariableDeclarator}
+use Rattle.small_tree.specs.declared.expression.Expression.TheVariants as expression
+use Rattle.small_tree.specs.declared.module.Declaration.TheVariants as declaration
+use Rattle.small_tree.specs.declared.statement.Statement.TheVariants as statement
 
 map_itself : (ts : List Term) → map itself ts ≡ ts
 map_itself [] = refl
