@@ -37,18 +37,64 @@ pub fn is_identifier_name(text: &str) -> bool
     }
 }
 
-/// Whether the word is reserved in module code.
+fn is_short_reserved(text: &str) -> bool
+    ensures { result ≡ lexeme.is_one_of text.now (spec.reserved_within 2 4) }
+{
+    match text {
+        "do" | "if" | "in" | "for" | "new" | "try" | "var" | "let" => true,
+        "case" | "else" | "enum" | "null" | "this" | "true" | "void" | "with" => true,
+        _ => false,
+    }
+}
+
+fn is_reserved_of_five(text: &str) -> bool
+    ensures { result ≡ lexeme.is_one_of text.now (spec.reserved_within 5 5) }
+{
+    match text {
+        "break" | "catch" | "class" | "const" | "false" | "super" => true,
+        "throw" | "while" | "yield" | "await" => true,
+        _ => false,
+    }
+}
+
+fn is_reserved_of_six(text: &str) -> bool
+    ensures { result ≡ lexeme.is_one_of text.now (spec.reserved_within 6 6) }
+{
+    match text {
+        "delete" | "export" | "import" | "return" | "switch" | "typeof" => true,
+        "static" | "public" => true,
+        _ => false,
+    }
+}
+
+fn is_long_reserved(text: &str) -> bool
+    ensures { result ≡ lexeme.is_one_of text.now (spec.reserved_within 7 10) }
+{
+    match text {
+        "default" | "extends" | "finally" | "package" | "private" => true,
+        "continue" | "debugger" | "function" | "interface" | "protected" => true,
+        "instanceof" | "implements" => true,
+        _ => false,
+    }
+}
+
+/// Whether the word is reserved in module code. It is compared with words of about its length alone.
+#[tactic(auto, using(crate::proofs::Reserved::within, crate::proofs::Reserved::shorter, crate::proofs::Reserved::longer))]
 pub fn is_reserved(text: &str) -> bool
     ensures { result ≡ lexeme.is_reserved text.now }
 {
-    match text {
-        "break" | "case" | "catch" | "class" | "const" | "continue" | "debugger" => true,
-        "default" | "delete" | "do" | "else" | "enum" | "export" | "extends" | "false" => true,
-        "finally" | "for" | "function" | "if" | "import" | "in" | "instanceof" | "new" => true,
-        "null" | "return" | "super" | "switch" | "this" | "throw" | "true" | "try" => true,
-        "typeof" | "var" | "void" | "while" | "with" | "let" | "static" | "yield" => true,
-        "await" | "implements" | "interface" | "package" | "private" | "protected" => true,
-        "public" => true,
-        _ => false,
+    let length = text.len();
+    if length < 2 || length > 10 {
+        return false;
     }
+    if length < 5 {
+        return is_short_reserved(text);
+    }
+    if length == 5 {
+        return is_reserved_of_five(text);
+    }
+    if length == 6 {
+        return is_reserved_of_six(text);
+    }
+    is_long_reserved(text)
 }
