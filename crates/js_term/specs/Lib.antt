@@ -1,4 +1,5 @@
 pub mod Term
+pub mod Kinds
 pub mod Scope
 pub mod Lexeme
 pub mod Node

@@ -10,7 +10,7 @@ use Rattle.module_model.specs.Shape.{detached, getter, request, strings}
 use Rattle.module_model.specs.Resolved.{read_kids, finished, with_callee, in_callee, is_reference, is_member, refers}
 use Rattle.module_model.specs.Meaning.{Request, all_handed_out, all_kept, requests}
 use Rattle.module_model.specs.Run.{spelled, written, rewritten, rewritten_each, getters, written_requests, run_items, run}
-use Rattle.module_model.specs.Same.{is_kind}
+use Rattle.js_term.specs.Kinds.{is_kind}
 use Rattle.module_model.proofs.EveryKind.{differ, kinds, when, the_kind}
 use Rattle.module_model.proofs.Names.{Names, a_name, small_binding, bound_is_small, request_name_binds, or_else, entry_append, is_plain, plainly_is_plain, is_inner, call_is_inner}
 use Rattle.module_model.proofs.Fits.{first_passes, widened, each_append, fits_bare}

@@ -4,7 +4,8 @@ use lib.Pointwise.{pointwise, pointwise_decides}
 use Rattle.std.specs.Cmp.Lexicographic.{bytes_decides}
 use Rattle.std.proofs.lemmas.Bool.{and_parts}
 use Rattle.js_term.specs.Term.{Text, is_text, Term, absent, list, node, Terms, none, more}
-use Rattle.module_model.specs.Same.{is_kind, same, same_all}
+use Rattle.js_term.specs.Kinds.{is_kind}
+use Rattle.module_model.specs.Same.{same, same_all}
 use Rattle.module_model.proofs.EveryKind.{differ, kind_same, kind_self}
 
 texts_decide : (xs ys : List Text) → (pointwise is_text xs ys ≡ true → xs ≡ ys) × (xs ≡ ys → pointwise is_text xs ys ≡ true)

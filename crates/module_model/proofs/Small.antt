@@ -5,7 +5,7 @@ use Rattle.std.proofs.lemmas.Bool.{and_parts, and_from, not-true}
 use Rattle.js_term.specs.Term.{Text, Kind, Term, absent, list, node, Terms, none, more, append, items, first}
 use Rattle.js_term.specs.Scope.{Role, role, kid}
 use Rattle.js_term.specs.Form.{Sort, Place, one, many, some, single, several, empty, takes_list, item_place, first_place, later_places, takes_kind, fits, fits_each, fits_places, stands_small, allows, places, property_places, no_texts, is_small_name, is_small_binding, has_small_form, items_of, is_item, is_declaration}
-use Rattle.module_model.specs.Same.{is_kind}
+use Rattle.js_term.specs.Kinds.{is_kind}
 use Rattle.module_model.specs.Meaning.{hashbang_of, directives_of, keeps, kept, all_kept, hands_out, handed_out, all_handed_out}
 use Rattle.module_model.proofs.EveryKind.{differ, kinds, when, the_kind}
 use Rattle.module_model.proofs.Names.{bound_is_small, Names, no_names, names_append}
