@@ -1,6 +1,6 @@
 -- The texts that stand for themselves in a module (ECMAScript 12): gaps, names, numbers, strings, templates and regular
 -- expressions. A text is its bytes in UTF-8; where more than ASCII matters, its characters are asked.
-use Rattle.std.specs.Prelude.{ℕ, is_some, ◌+◌, ◌*◌, ◌-◌, List, [], ◌∷◌, ◌++◌, map, option_map, Option, None, Some, Bool, true, false, not, ◌&&◌, ◌||◌, if◌then◌else◌, nat_eq, nat_lt, codes, filter}
+use Rattle.std.specs.Prelude.{ℕ, is_some, ◌+◌, ◌*◌, ◌-◌, List, [], ◌∷◌, ◌++◌, option_map, Option, None, Some, Bool, true, false, not, ◌&&◌, ◌||◌, if◌then◌else◌, nat_eq, nat_lt, codes, filter}
 use Rattle.std.specs.List.{list_all, list_any}
 use Rattle.std.specs.Str.{chars, is_utf8, encode_utf8_all}
 use Rattle.js_term.specs.Term.{Text, is_text}

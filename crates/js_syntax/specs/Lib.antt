@@ -1,1 +1,6 @@
+pub mod Edges
 pub mod Lexical
+pub mod Modules
+pub mod Nodes
+pub mod Spelling
+pub mod Tokens
