@@ -4,7 +4,7 @@ use Rattle.std.specs.Prelude.{ℕ, is_some, ◌+◌, ◌*◌, ◌-◌, List, [],
 use Rattle.std.specs.List.{list_all, list_any}
 use Rattle.std.specs.Str.{chars, is_utf8, encode_utf8_all}
 use Rattle.js_term.specs.Term.{Text, is_text}
-use Rattle.js_term.specs.Lexeme.{between, is_digit, is_quote, is_one_of, is_plain}
+use Rattle.js_term.specs.Lexeme.{between, is_digit, is_start, is_part, is_word, is_quote, is_one_of, is_plain}
 use Rattle.js_chars.specs.Names.{is_identifier_start, is_identifier_part, is_identifier_name}
 
 -- whether the text begins with this one
@@ -43,9 +43,12 @@ abbrev pub ends_line : Text → Bool
 ends_line [] = true
 ends_line text = begins_any line_ends text
 
--- IdentifierName (12.7), reserved or not, of any length
+abbrev pub is_ascii : ℕ → Bool
+is_ascii c = nat_lt c 128
+
+-- IdentifierName (12.7), reserved or not, of any length: an ASCII word, or characters of Unicode's sets
 abbrev pub is_name : Text → Bool
-is_name x = is_utf8 x && is_identifier_name (chars x)
+is_name x = if list_all is_ascii x then is_word x else is_utf8 x && is_identifier_name (chars x)
 
 abbrev pub first_passes : (ℕ → Bool) → List ℕ → Bool
 first_passes test [] = false
@@ -53,11 +56,13 @@ first_passes test (c ∷ cs) = test c
 
 -- whether the text begins with a character that goes on with a name
 abbrev pub begins_part : Text → Bool
-begins_part text = first_passes is_identifier_part (chars text)
+begins_part [] = false
+begins_part (c ∷ cs) = if is_ascii c then is_part c else first_passes is_identifier_part (chars (c ∷ cs))
 
 -- whether it begins with one that may begin a name, or with a digit
 abbrev pub begins_start_or_digit : Text → Bool
-begins_start_or_digit text = first_passes is_identifier_start (chars text) || first_passes is_digit text
+begins_start_or_digit [] = false
+begins_start_or_digit (c ∷ cs) = if is_ascii c then is_start c || is_digit c else first_passes is_identifier_start (chars (c ∷ cs))
 
 -- digits of a kind, with a single `_` between two of them (12.9.3, NumericLiteralSeparator)
 abbrev pub are_digits : (ℕ → Bool) → Text → Bool
@@ -144,10 +149,13 @@ is_lead_surrogate c = between 0xD800 0xDBFF c
 abbrev pub is_trail_surrogate : ℕ → Bool
 is_trail_surrogate c = between 0xDC00 0xDFFF c
 
+-- a character in UTF-8
+abbrev pub encoded : ℕ → Text
+encoded c = if is_ascii c then c ∷ [] else encode_utf8_all (c ∷ [])
+
 -- a character that is no surrogate, behind which a text goes on
 abbrev pub with_character : ℕ → Option Text → Option Text
-with_character c rest =
-    if is_lead_surrogate c || (is_trail_surrogate c || nat_lt 0x10FFFF c) then None else option_map (λ x. encode_utf8_all (c ∷ []) ++ x) rest
+with_character c rest = if is_lead_surrogate c || (is_trail_surrogate c || nat_lt 0x10FFFF c) then None else option_map (λ x. encoded c ++ x) rest
 
 abbrev pub with_byte : ℕ → Option Text → Option Text
 with_byte c rest = option_map (λ x. c ∷ x) rest
