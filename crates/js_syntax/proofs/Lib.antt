@@ -1,0 +1,4 @@
+pub mod NarrowBytes
+pub mod NarrowStarts
+pub mod NarrowStrings
+pub mod NarrowTokens
