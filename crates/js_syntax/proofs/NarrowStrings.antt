@@ -1,5 +1,5 @@
 -- What a small module has between quotes has the same value in the whole language.
-use Rattle.std.proofs.Common.{◌≡◌, refl, sym, ap, ◌∙◌, ℕ, [], ◌∷◌, Bool, true, false, ◌&&◌, not, nat_eq, if◌then◌else◌, Option, Some, None, arith}
+use Rattle.std.proofs.Common.{◌≡◌, refl, ap, ◌∙◌, ℕ, ◌∷◌, Bool, true, false, nat_eq, if◌then◌else◌, Some, None, arith}
 use Rattle.std.proofs.lemmas.Bool.{eqb-true}
 use Rattle.std.proofs.lemmas.Bool.Decides.{nat_tests}
 use Rattle.js_term.specs.Term.{Text}
