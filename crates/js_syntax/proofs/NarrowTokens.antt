@@ -1,42 +1,22 @@
 -- Each token of a small module is one of the whole language.
 use Rattle.std.proofs.Common.{◌≡◌, refl, sym, ap, ◌∙◌, subst, ℕ, [], ◌∷◌, ◌++◌, append_assoc, append-nil, codes, Bool, true, false, not, ◌||◌, if◌then◌else◌, nat_eq, arith}
-use Rattle.std.proofs.lemmas.Bool.{and_parts, and_from, and_right, or_left, or_right, or_parts, or_from, not-true, not_from_false, eqb-true}
+use Rattle.std.proofs.lemmas.Bool.{and_parts, and_from, and_right, or_right, or_parts, or_from, not-true, not_from_false}
 use Rattle.std.proofs.lemmas.Bool.Decides.{nat_tests}
 use Rattle.std.specs.List.{list_all, list_any}
 use Rattle.js_term.specs.Term.{Text}
 use Rattle.js_term.specs.Lexeme.{Manner, between, is_line_end, is_blank, is_digit, is_start, is_part, goes_on, is_word, is_decimal, not_next, goes_on_number, is_quote, is_one_of, left_brace, right_brace, left_paren, right_paren, left_bracket, right_bracket, comma, semicolon, dot, colon, equals, same_line}
 use Rattle.js_term.specs.Lexeme as small
-use Rattle.js_syntax.specs.Lexical.{begins_gap, is_ascii, is_name, first_passes, begins_part, begins_start_or_digit, are_digits, is_integer, up_to, onward, is_e, is_point, is_mantissa, is_exponent, is_radix_integer, is_decimal_literal, is_numeral}
+use Rattle.js_syntax.specs.Lexical.{first_passes, are_digits, is_integer, up_to, onward, is_e, is_point, is_mantissa, is_exponent, is_radix_integer, is_decimal_literal, is_numeral}
 use Rattle.js_syntax.specs.Tokens.{Gap, no_gap, Front, SameLine, AtEnd, Lexeme, signs, opens_with, is_longest, Lexed, Token, Word, Sign}
 use Rattle.js_syntax.specs.Tokens as whole
+use Rattle.js_syntax.proofs.Ascii.{ascii_name, ascii_end, ascii_end_of_number, front_of, token_of}
 use Rattle.js_syntax.proofs.NarrowStrings.{characters_decoded}
 use Rattle.js_syntax.proofs.NarrowBytes.{apart, is_front, is_opening, weaker, opening_front, spelled_first, no_gap_before, Opened, next_byte, word_opens}
 
 -- ---- gaps
 
--- a blank at the front of a gap
-blank_gap : (c : ℕ) {line : Bool} {a b : Text} → is_blank c ≡ true → Gap line a b → Gap (is_line_end c || line) (c ∷ a) b
-blank_gap c {line} {a} {b} h g = go (nat_eq c 32) (nat_eq c 9) (nat_eq c 10) (nat_eq c 13) refl refl refl refl
-  where
-    at : (d : ℕ) → nat_eq c d ≡ true → Gap (is_line_end d || line) (d ∷ a) b → Gap (is_line_end c || line) (c ∷ a) b
-    at d e x = subst (λ (y : ℕ). Gap (is_line_end y || line) (y ∷ a) b) (sym (eqb-true c d e)) x
-
-    go : (p q r t : Bool) → nat_eq c 32 ≡ p → nat_eq c 9 ≡ q → nat_eq c 10 ≡ r → nat_eq c 13 ≡ t → Gap (is_line_end c || line) (c ∷ a) b
-    go true q r t ep eq er et = at 32 ep (whole.blank (32 ∷ []) refl g)
-    go false true r t ep eq er et = at 9 eq (whole.blank (9 ∷ []) refl g)
-    go false false true t ep eq er et = at 10 er (whole.line_end (10 ∷ []) refl g)
-    go false false false true ep eq er et = at 13 et (whole.line_end (13 ∷ []) refl g)
-    go false false false false ep eq er et = let none : is_blank c ≡ false = rw (ep, eq, er, et) refl in absurd (cc)
-
-gap_of : (gap z : Text) → list_all is_blank gap ≡ true → Gap (list_any is_line_end gap) (gap ++ z) z
-gap_of [] z h = no_gap
-gap_of (c ∷ cs) z h = let (one, more) = and_parts (is_blank c) (list_all is_blank cs) h in blank_gap c one (gap_of cs z more)
-
-front_at : (a gap middle : Text) → a ≡ gap ++ middle → list_all is_blank gap ≡ true → begins_gap middle ≡ false → Front (list_any is_line_end gap) a middle
-front_at a gap middle e h ends = record { gap = subst (λ (z : Text). Gap (list_any is_line_end gap) z middle) (sym e) (gap_of gap middle h); ends = ends }
-
 pub at_end_is : (a : Text) → small.AtEnd a → AtEnd a
-at_end_is a h = record { line = list_any is_line_end a; front = front_at a a [] (sym (append-nil a)) h refl }
+at_end_is a h = record { line = list_any is_line_end a; front = subst (λ (z : Text). Front (list_any is_line_end a) z []) (append-nil a) (front_of a [] h refl) }
 
 no_line : (gap z : Text) → list_all is_blank gap ≡ true → same_line (gap ++ z) ≡ true → list_any is_line_end gap ≡ false
 no_line [] z h l = refl
@@ -53,48 +33,22 @@ no_line (c ∷ cs) z h l =
 pub same_line_is : (a : Text) → same_line a ≡ true → Opened is_opening a → SameLine a
 same_line_is a h o =
     let none = no_line o.gap o.middle o.blank (ap same_line (sym o.whole_is) ∙ h) in
-    record { rest = o.middle; front = subst (λ (line : Bool). Front line a o.middle) none (front_at a o.gap o.middle o.whole_is o.blank (no_gap_before o.middle (weaker is_opening is_front o.middle opening_front o.begins))) }
+    let front = front_of o.gap o.middle o.blank (no_gap_before o.middle (weaker is_opening is_front o.middle opening_front o.begins)) in
+    let here = subst (λ (z : Text). Front (list_any is_line_end o.gap) z o.middle) (sym o.whole_is) front in
+    record { rest = o.middle; front = subst (λ (line : Bool). Front line a o.middle) none here }
 
 -- ---- tokens
 
 token_is : {m : Manner} {k : small.Lexeme} {l : Lexeme} {a b : Text} (t : small.Token m a k b) → Lexed l (t.spelled ++ b) b → Token a l b
-token_is {a = a} {b = b} t x = record {
-  line = list_any is_line_end t.gap;
-  middle = t.spelled ++ b;
-  front = front_at a t.gap (t.spelled ++ b) t.whole_is t.blank (no_gap_before (t.spelled ++ b) (spelled_first t.is_spelled));
-  lexed = x;
-}
+token_is {l = l} {b = b} t x =
+    let middle = t.spelled ++ b in
+    subst (λ (z : Text). Token z l b) (sym t.whole_is) (token_of t.gap middle l b t.blank (no_gap_before middle (spelled_first t.is_spelled)) x)
 
-part_ascii : (c : ℕ) → is_part c ≡ true → is_ascii c ≡ true
-part_ascii c h = grind (arith, nat_tests)
+-- what does not go on with a number
 
-parts_ascii : (x : Text) → list_all is_part x ≡ true → list_all is_ascii x ≡ true
-parts_ascii [] h = refl
-parts_ascii (c ∷ cs) h = let (one, more) = and_parts (is_part c) (list_all is_part cs) h in and_from (is_ascii c) _ (part_ascii c one) (parts_ascii cs more)
-
-word_parts : (x : Text) → is_word x ≡ true → list_all is_part x ≡ true
-word_parts [] h = refl
-word_parts (c ∷ cs) h = let (one, more) = and_parts (is_start c) (list_all is_part cs) h in and_from (is_part c) _ (or_left (is_start c) (is_digit c) one) more
-
-if_true : {A : Type 0} (b : Bool) (x y : A) → b ≡ true → (if b then x else y) ≡ x
-if_true true x y e = refl
-if_true false x y e = absurd (cc)
-
-word_name : (x : Text) → is_word x ≡ true → is_name x ≡ true
-word_name x h = if_true (list_all is_ascii x) _ _ (parts_ascii x (word_parts x h)) ∙ h
-
-ends_ascii : (c : ℕ) → not (goes_on c) ≡ true → is_ascii c ≡ true
-ends_ascii c h = grind (arith, nat_tests)
-
-part_ends : (rest : Text) → not_next goes_on rest ≡ true → begins_part rest ≡ false
-part_ends [] h = refl
-part_ends (c ∷ cs) h = if_true (is_ascii c) _ _ (ends_ascii c h) ∙ (or_parts (is_part c) _ (not-true (goes_on c) h)).0
-
-number_ends : (rest : Text) → not_next goes_on_number rest ≡ true → begins_start_or_digit rest ≡ false
-number_ends [] h = refl
-number_ends (c ∷ cs) h =
-    let none = (or_parts (goes_on c) (nat_eq c 46) (not-true (goes_on_number c) h)).0 in
-    if_true (is_ascii c) _ _ (ends_ascii c (not_from_false (goes_on c) none)) ∙ (or_parts (is_part c) _ none).0
+no_more_word : (rest : Text) → not_next goes_on_number rest ≡ true → not_next goes_on rest ≡ true
+no_more_word [] h = refl
+no_more_word (c ∷ cs) h = not_from_false (goes_on c) (or_parts (goes_on c) (nat_eq c 46) (not-true (goes_on_number c) h)).0
 
 no_point : (rest : Text) → not_next goes_on_number rest ≡ true → first_passes is_point rest ≡ false
 no_point [] h = refl
@@ -158,13 +112,13 @@ pub word_is : {m : Manner} {x a b : Text} → small.Token m a (small.word x) b �
 word_is {m} {x} {a} {b} t = token_is t (by t.is_spelled)
   where
     by : {s : Text} → small.IsSpelled m (small.word x) s b → Lexed (whole.word x) (s ++ b) b
-    by (small.is_name w n) = whole.is_word (word_name x w) (part_ends b n)
+    by (small.is_name w n) = whole.is_word (ascii_name x w) (ascii_end b n)
 
 pub number_is : {m : Manner} {x a b : Text} → small.Token m a (small.number x) b → Token a (whole.number x) b
 number_is {m} {x} {a} {b} t = token_is t (by t.is_spelled)
   where
     by : {s : Text} → small.IsSpelled m (small.number x) s b → Lexed (whole.number x) (s ++ b) b
-    by (small.is_number w n) = whole.is_number (decimal_numeral x w) (number_ends b n) (and_right (is_integer x) _ (no_point b n))
+    by (small.is_number w n) = whole.is_number (decimal_numeral x w) (ascii_end_of_number b (no_more_word b n)) (and_right (is_integer x) _ (no_point b n))
 
 -- a string as it is written
 pub record StringToken (a value b : Text) : Type 0 where
