@@ -1,4 +1,5 @@
 pub mod Edges
+pub mod Examples
 pub mod Lexical
 pub mod Modules
 pub mod Nodes

@@ -3,9 +3,13 @@
 //! The definitions stand in `specs/`; the functions here are laws over them and do nothing.
 #![tactic(auto)]
 
-ghost use Rattle.js_syntax.specs.Lexical.{begins};
-ghost use Rattle.std.specs.Prelude.{◌≡◌, [], true};
+ghost use Rattle.js_syntax.specs.Examples.{LineExamples, ExpressionExamples, FunctionExamples, ModuleExamples};
 
-pub fn empty()
-    ensures { begins [] [] ≡ true }
+/// Texts that are written out spell what their pages say.
+#[tactic(auto, using(crate::proofs::DerivedLines::line_examples, crate::proofs::DerivedExpressions::expression_examples, crate::proofs::DerivedFunctions::function_examples, crate::proofs::DerivedModules::module_examples))]
+pub fn worked_examples()
+    ensures lines { LineExamples }
+    ensures expressions { ExpressionExamples }
+    ensures functions { FunctionExamples }
+    ensures modules { ModuleExamples }
 {}
