@@ -26,6 +26,9 @@ pub data Specifier : Side → Term → Text → Text → Type 0 where
   import_same : {x a b : Text} → is_reserved x ≡ false → Word x a b → Specifier imported (specifier_of x x) a b
   export_renamed : {x a b c d : Text} {m : Term} → is_reserved x ≡ false → Word x a b → Word (codes "as") b c → ExportName m c d → Specifier local (export_specifier_of (identifier_of x) m) a d
   export_same : {x a b : Text} → is_reserved x ≡ false → Word x a b → Specifier local (export_specifier_of (identifier_of x) (name_of x)) a b
+  -- a string, which names no declaration of this module: module trees have none
+  string_renamed : {raw v a b c d : Text} {m : Term} → Token a (string raw v) b → Word (codes "as") b c → ExportName m c d → Specifier local (export_specifier_of (string_of v) m) a d
+  string_same : {raw v a b : Text} → Token a (string raw v) b → Specifier local (export_specifier_of (string_of v) (string_of v)) a b
   indirect_renamed : {m e : Term} {a b c d : Text} → ExportName m a b → Word (codes "as") b c → ExportName e c d → Specifier indirect (export_specifier_of m e) a d
   indirect_same : {m : Term} {a b : Text} → ExportName m a b → Specifier indirect (export_specifier_of m m) a b
 
