@@ -9,7 +9,7 @@ use Rattle.js_term.specs.Lexeme.{is_line_end, is_blank, is_digit, is_start, is_p
 use Rattle.js_chars.specs.Names.{is_identifier_start, is_identifier_part, is_identifier_name}
 use Rattle.std.specs.Str.{is_utf8, chars}
 use Rattle.js_syntax.specs.Lexical.{white_space, line_ends, begins_gap, is_ascii, is_name, first_passes, begins_part, begins_start_or_digit, is_integer, is_point, is_numeral, is_big_integer, decoded, are_template_characters, normal_lines, is_regexp_body, are_regexp_flags, in_order}
-use Rattle.js_syntax.specs.Tokens.{Gap, no_gap, blank, line_end, Front, word, private_name, number, big_integer, string, regexp, no_substitution, template_head, template_middle, template_tail, sign, signs, opens_with, is_longest, Lexed, Lexeme, Token, is_number, is_private_name, is_bigint, is_string, is_regexp, is_no_substitution, is_head, is_middle, is_tail, is_punctuator}
+use Rattle.js_syntax.specs.Tokens.{Gap, no_gap, blank, line_end, Front, SameLine, AtEnd, word, private_name, number, big_integer, string, regexp, no_substitution, template_head, template_middle, template_tail, sign, signs, opens_with, is_longest, Lexed, Lexeme, Token, is_number, is_private_name, is_bigint, is_string, is_regexp, is_no_substitution, is_head, is_middle, is_tail, is_punctuator}
 use Rattle.js_syntax.specs.Tokens
 
 -- ---- bytes
@@ -86,6 +86,12 @@ gap_of (c ∷ cs) rest e = let both = and_parts (is_blank c) (list_all is_blank 
 
 pub front_of : (gap rest : Text) → list_all is_blank gap ≡ true → begins_gap rest ≡ false → Front (list_any is_line_end gap) (gap ++ rest) rest
 front_of gap rest e ends = record { gap = gap_of gap rest e; ends = ends }
+
+pub same_line_of : (gap rest : Text) → list_all is_blank gap ≡ true → list_any is_line_end gap ≡ false → begins_gap rest ≡ false → SameLine (gap ++ rest)
+same_line_of gap rest e same ends = record { rest = rest; front = subst (λ line. Front line (gap ++ rest) rest) same (front_of gap rest e ends) }
+
+pub at_end_of : (gap : Text) → list_all is_blank gap ≡ true → AtEnd (gap ++ [])
+at_end_of gap e = record { line = list_any is_line_end gap; front = front_of gap [] e refl }
 
 -- ---- tokens
 

@@ -6,3 +6,9 @@ pub mod NarrowSpelling
 pub mod NarrowStarts
 pub mod NarrowStrings
 pub mod NarrowTokens
+pub mod Written
+pub mod DerivedLines
+pub mod DerivedExpressions
+pub mod DerivedFunctions
+pub mod DerivedModules
+pub mod DerivedTrees
