@@ -1,5 +1,5 @@
 -- The parts of small modules that hold no expressions, and how lists of parts end.
-use Rattle.std.proofs.Common.{◌≡◌, refl, ap, subst, ◌≤◌, List, [], ◌∷◌, true, false, arith}
+use Rattle.std.proofs.Common.{◌≡◌, refl, ap, subst, ◌≤◌, List, [], ◌∷◌, true, false, not, arith}
 use Rattle.js_term.specs.Term.{Text, Kind, Term, absent, list, node, Terms, more, two, all}
 use Rattle.js_term.specs.Lexeme.{Manner, left_paren, right_paren}
 use Rattle.js_term.specs.Lexeme as token
@@ -7,14 +7,15 @@ use Rattle.js_term.specs.Node.{binding_of, named, parameters_of}
 use Rattle.js_term.specs.Spells.{level, joined}
 use Rattle.js_term.specs.Spells as small
 use Rattle.js_syntax.specs.Nodes.{parameter_of}
-use Rattle.js_syntax.specs.Edges.{is_absent, last_absent}
+use Rattle.js_syntax.specs.Edges.{last_absent}
+use Rattle.js_syntax.specs.Parts.{is_present}
 use Rattle.js_syntax.specs.Spelling.{Sort, expression, parameter, is_several, Expression, Item, Listed, Group, Parameters}
 use Rattle.js_syntax.specs.Spelling as whole
 use Rattle.js_syntax.proofs.NarrowTokens.{word_is, left_paren_is, right_paren_is, comma_is}
 
 -- ---- no part that is absent
 
-present : (e : Term) → 2 ≤ level e → is_absent e ≡ false
+present : (e : Term) → 2 ≤ level e → not (is_present e) ≡ false
 present absent h = absurd (omega arith)
 present (list ts) h = refl
 present (node k texts ts) h = refl

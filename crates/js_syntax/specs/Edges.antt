@@ -3,6 +3,11 @@
 use Rattle.std.specs.Prelude.{ℕ, List, [], ◌∷◌, map, Option, None, Some, Bool, true, false, not, ◌&&◌, ◌||◌, if◌then◌else◌, nat_eq, nat_le, codes}
 use Rattle.js_term.specs.Term.{Text, is_text, Kind, Term, absent, list, node, Terms, none, more, first, head}
 use Rattle.js_term.specs.Lexeme.{is_one_of}
+use Rattle.js_syntax.specs.Parts.{is_node, is_present, text_of}
+use Rattle.js_syntax.specs.Texts.{unary_operators, update_operators}
+use Rattle.js_syntax.specs.Sorts as sorts
+use Rattle.js_syntax.specs.Sorts.{Sort, stands}
+use Rattle.js_syntax.specs.Printable.{is_constructor_key}
 use Rattle.js_syntax.specs.Tokens.{Lexeme, word, private_name, number, big_integer, string, regexp, no_substitution, template_head, sign}
 
 -- The levels of binary operators (13.6 to 13.12): how tightly each binds
@@ -19,13 +24,10 @@ abbrev pub binary_level : Text → Option ℕ
 binary_level op = level_among op operator_levels
 
 abbrev pub is_unary : Text → Bool
-is_unary op = is_one_of op (map codes ("delete" ∷ "void" ∷ "typeof" ∷ "+" ∷ "-" ∷ "~" ∷ "!" ∷ []))
+is_unary op = is_one_of op unary_operators
 
 abbrev pub is_update : Text → Bool
-is_update op = is_one_of op (map codes ("++" ∷ "--" ∷ []))
-
-abbrev pub assignment_operators : List Text
-assignment_operators = map codes ("=" ∷ "+=" ∷ "-=" ∷ "*=" ∷ "/=" ∷ "%=" ∷ "**=" ∷ "<<=" ∷ ">>=" ∷ ">>>=" ∷ "&=" ∷ "^=" ∷ "|=" ∷ "&&=" ∷ "||=" ∷ "??=" ∷ [])
+is_update op = is_one_of op update_operators
 
 abbrev pub is_word_operator : Text → Bool
 is_word_operator op = is_one_of op (map codes ("delete" ∷ "void" ∷ "typeof" ∷ "instanceof" ∷ "in" ∷ []))
@@ -38,16 +40,9 @@ is_coalesce_left n = nat_eq n 4 || nat_le 7 n
 abbrev pub member_level : ℕ → ℕ
 member_level n = if nat_eq n 19 then 19 else 20
 
-abbrev pub is_simple_kind : Kind → Bool
-is_simple_kind Kind.Identifier = true
-is_simple_kind Kind.StaticMemberExpression = true
-is_simple_kind Kind.ComputedMemberExpression = true
-is_simple_kind Kind.PrivateFieldExpression = true
-is_simple_kind k = false
-
 -- AssignmentTargetType is simple (8.6.4): an identifier or a member
 abbrev pub is_simple_target : Term → Bool
-is_simple_target (node k texts ts) = is_simple_kind k
+is_simple_target (node k texts ts) = sorts.is_simple_target k
 is_simple_target t = false
 
 abbrev pub is_private_kind : Kind → Bool
@@ -57,10 +52,6 @@ is_private_kind k = false
 abbrev pub is_private_member : Term → Bool
 is_private_member (node k texts ts) = is_private_kind k
 is_private_member t = false
-
-abbrev pub is_absent : Term → Bool
-is_absent absent = true
-is_absent t = false
 
 abbrev pub is_private_key : Kind → Bool
 is_private_key Kind.PrivateIdentifier = true
@@ -73,12 +64,12 @@ no_private t = true
 
 -- a function or a class without a name
 abbrev pub is_unnamed : Term → Bool
-is_unnamed (node k texts ts) = is_absent (head ts)
+is_unnamed (node k texts ts) = not (is_present (head ts))
 is_unnamed t = true
 
 abbrev pub last_absent : List Term → Bool
 last_absent [] = false
-last_absent (t ∷ []) = is_absent t
+last_absent (t ∷ []) = not (is_present t)
 last_absent (t ∷ ts) = last_absent ts
 
 -- Kinds whose text begins with that of their first part; an update does where its operator stands behind.
@@ -130,66 +121,14 @@ begins_with_brace e = has_kind is_brace_kind (leftmost e)
 abbrev pub begins_with_definition : Term → Bool
 begins_with_definition e = has_kind is_definition_kind (leftmost e)
 
--- an `if` without `else` at its end, with which an `else` behind it would go (14.6)
-abbrev mutual
-  pub ends_open : Term → Bool
-  ends_open absent = true
-  ends_open (list ts) = false
-  ends_open (node Kind.IfStatement texts ts) = last_open ts
-  ends_open (node Kind.LabeledStatement texts ts) = last_open ts
-  ends_open (node Kind.WhileStatement texts ts) = last_open ts
-  ends_open (node Kind.ForStatement texts ts) = last_open ts
-  ends_open (node Kind.ForInStatement texts ts) = last_open ts
-  ends_open (node Kind.ForOfStatement texts ts) = last_open ts
-  ends_open (node k texts ts) = false
-
-  pub last_open : Terms → Bool
-  last_open none = false
-  last_open (more t none) = ends_open t
-  last_open (more t ts) = last_open ts
-
 -- a statement that may be the body of another (14.6, 14.7, 14.13): no declaration but with `var`
-abbrev pub is_body_kind : Kind → List Text → Bool
-is_body_kind Kind.VariableDeclaration texts = is_text (first texts) (codes "var")
-is_body_kind Kind.FunctionDeclaration texts = false
-is_body_kind Kind.ClassDeclaration texts = false
-is_body_kind k texts = true
-
 abbrev pub is_body : Term → Bool
-is_body (node k texts ts) = is_body_kind k texts
+is_body (node k texts ts) = stands Sort.body k texts
 is_body t = false
 
-abbrev pub is_default : Term → Bool
-is_default (node Kind.SwitchCase texts ts) = is_absent (head ts)
-is_default t = false
-
-abbrev pub no_default : List Term → Bool
-no_default [] = true
-no_default (t ∷ ts) = not (is_default t) && no_default ts
-
--- CaseBlock (14.12) has one `default` at most
-abbrev pub one_default : List Term → Bool
-one_default [] = true
-one_default (t ∷ ts) = if is_default t then no_default ts else one_default ts
-
-abbrev pub is_text_node : Kind → Text → Term → Bool
-is_text_node Kind.Identifier x (node Kind.Identifier texts ts) = is_text (first texts) x
-is_text_node Kind.IdentifierName x (node Kind.IdentifierName texts ts) = is_text (first texts) x
-is_text_node Kind.StringLiteral x (node Kind.StringLiteral texts ts) = is_text (first texts) x
-is_text_node k x t = false
-
--- the bare target `async`, which does not stand before `of` (14.7.5)
-abbrev pub is_async_name : Term → Bool
-is_async_name t = is_text_node Kind.Identifier (codes "async") t
-
--- a key that names the constructor: without brackets, the name or the string (15.7.1)
-abbrev pub names_constructor : Bool → Term → Bool
-names_constructor true key = false
-names_constructor false key = is_text_node Kind.IdentifierName (codes "constructor") key || is_text_node Kind.StringLiteral (codes "constructor") key
-
--- whether a method definition is the constructor: not static, and so named
+-- whether a method definition is the constructor: not static, and named so without brackets (15.7.1)
 abbrev pub is_constructor : Text → Bool → Term → Bool
-is_constructor [] computed key = names_constructor computed key
+is_constructor [] computed key = not computed && is_constructor_key key
 is_constructor static computed key = false
 
 abbrev pub is_string_kind : Kind → Bool
@@ -264,10 +203,13 @@ declared_edge [] = plain
 declared_edge (node k texts (more p (more e none)) ∷ []) = edge_or_plain e
 declared_edge (d ∷ ds) = declared_edge ds
 
+abbrev pub is_name_key : Text → Term → Bool
+is_name_key x key = is_node Kind.IdentifierName key && is_text (text_of key) x
+
 -- the edge of a field: of its initializer, or by its name
 abbrev pub field_edge : Text → Bool → Term → Term → Edge
 field_edge static_flag computed key absent =
-    if computed then plain else if is_text_node Kind.IdentifierName (codes "get") key || is_text_node Kind.IdentifierName (codes "set") key then accessor else if is_text static_flag [] && is_text_node Kind.IdentifierName (codes "static") key then static else plain
+    if computed then plain else if is_name_key (codes "get") key || is_name_key (codes "set") key then accessor else if is_text static_flag [] && is_name_key (codes "static") key then static else plain
 field_edge static_flag computed key e = edge e
 
 -- signs that go on with an expression: the binary, logical and assignment operators, `?` and `,`

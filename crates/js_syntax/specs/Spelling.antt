@@ -7,7 +7,9 @@ use Rattle.js_term.specs.Node.{identifier_of, binding_of, name_of, string_of, nu
 use Rattle.js_syntax.specs.Lexical.{has_sound_escapes}
 use Rattle.js_syntax.specs.Nodes.{alone, of_text, of_part, of_parts, of_list, marked, three, regexp_of, template_of, super_of, call_link, static_link, computed_link, private_of, private_link, new_of, update_of, property, pair_of, rested, parameter_of, function_node, body_node, class_node, method_node, field_node, variables_of, declarator_of, block_of, label_of, for_of, for_each, case_of, if_of, try_of}
 use Rattle.js_syntax.specs.Tokens.{Front, SameLine, AtEnd, Lexeme, private_name, number, big_integer, string, regexp, no_substitution, template_head, template_middle, template_tail, Lexed, Token, Word, Sign}
-use Rattle.js_syntax.specs.Edges.{binary_level, is_unary, is_update, assignment_operators, is_word_operator, is_coalesce_left, member_level, is_simple_target, is_private_member, is_absent, no_private, is_unnamed, last_absent, begins_with_brace, begins_with_definition, ends_open, is_body, one_default, is_async_name, is_constructor, begins_with_string, Edge, full, plain, edge, declared_edge, field_edge, is_sign_among, goes_on_with}
+use Rattle.js_syntax.specs.Texts.{assignment_operators}
+use Rattle.js_syntax.specs.Printable.{ends_open, is_named, is_switch, is_try}
+use Rattle.js_syntax.specs.Edges.{binary_level, is_unary, is_update, is_word_operator, is_coalesce_left, member_level, is_simple_target, is_private_member, no_private, is_unnamed, last_absent, begins_with_brace, begins_with_definition, is_body, is_constructor, begins_with_string, Edge, full, plain, edge, declared_edge, field_edge, is_sign_among, goes_on_with}
 
 -- an operator, a word or a sign
 pub data Operator : Text → Text → Text → Type 0 where
@@ -374,16 +376,16 @@ mutual
     while_statement : {e s : Term} {a b c d f g : Text} → Word (codes "while") a b → Sign (codes "(") b c → Expression true e c d → Sign (codes ")") d f → Embedded s f g → Statement (of_parts Kind.WhileStatement e s) a g
     for_statement : {init test update s : Term} {a b c d e f g h j k : Text} → Word (codes "for") a b → Sign (codes "(") b c → ForInit init c d → Sign (codes ";") d e → Perhaps test e f → Sign (codes ";") f g → Perhaps update g h → Sign (codes ")") h j → Embedded s j k → Statement (for_of init test update s) a k
     for_in : {left right s : Term} {a b c d e f g h : Text} → Word (codes "for") a b → Sign (codes "(") b c → ForLeft left c d → Word (codes "in") d e → Expression true right e f → Sign (codes ")") f g → Embedded s g h → Statement (for_each Kind.ForInStatement [] left right s) a h
-    for_of_statement : {n : ℕ} {left right s : Term} {a b c d e f g h : Text} → is_async_name left ≡ false → Word (codes "for") a b → Sign (codes "(") b c → ForLeft left c d → Word (codes "of") d e → Stands true n right e f → Sign (codes ")") f g → Embedded s g h → Statement (for_each Kind.ForOfStatement ([] ∷ []) left right s) a h
+    for_of_statement : {n : ℕ} {left right s : Term} {a b c d e f g h : Text} → is_named (codes "async") left ≡ false → Word (codes "for") a b → Sign (codes "(") b c → ForLeft left c d → Word (codes "of") d e → Stands true n right e f → Sign (codes ")") f g → Embedded s g h → Statement (for_each Kind.ForOfStatement ([] ∷ []) left right s) a h
     for_await : {n : ℕ} {left right s : Term} {a b c d e f g h j : Text} → Word (codes "for") a b → Word (codes "await") b c → Sign (codes "(") c d → ForLeft left d e → Word (codes "of") e f → Stands true n right f g → Sign (codes ")") g h → Embedded s h j → Statement (for_each Kind.ForOfStatement (codes "await" ∷ []) left right s) a j
     continue_statement : {l : Term} {a b c d : Text} → Word (codes "continue") a b → Label l b c → Semicolon plain c d → Statement (of_part Kind.ContinueStatement l) a d
     break_statement : {l : Term} {a b c d : Text} → Word (codes "break") a b → Label l b c → Semicolon plain c d → Statement (of_part Kind.BreakStatement l) a d
     bare_return : {a b c : Text} → Word (codes "return") a b → Semicolon plain b c → Statement (return_of absent) a c
     return_statement : {e : Term} {a b c d : Text} → Word (codes "return") a b → SameLine b → Expression true e b c → Semicolon (edge e) c d → Statement (return_of e) a d
-    switch_statement : {e : Term} {cs : List Term} {a b c d f g h j : Text} → one_default cs ≡ true → Word (codes "switch") a b → Sign (codes "(") b c → Expression true e c d → Sign (codes ")") d f → Sign (codes "{") f g → Cases cs g h → Sign (codes "}") h j → Statement (of_parts Kind.SwitchStatement e (list (all cs))) a j
+    switch_statement : {e : Term} {cs : List Term} {a b c d f g h j : Text} → is_switch (two e (list (all cs))) ≡ true → Word (codes "switch") a b → Sign (codes "(") b c → Expression true e c d → Sign (codes ")") d f → Sign (codes "{") f g → Cases cs g h → Sign (codes "}") h j → Statement (of_parts Kind.SwitchStatement e (list (all cs))) a j
     labeled : {x : Text} {s : Term} {a b c d : Text} → is_reserved x ≡ false → Word x a b → Sign (codes ":") b c → Embedded s c d → Statement (of_parts Kind.LabeledStatement (label_of x) s) a d
     throw_statement : {e : Term} {a b c d : Text} → Word (codes "throw") a b → SameLine b → Expression true e b c → Semicolon (edge e) c d → Statement (of_part Kind.ThrowStatement e) a d
-    try_statement : {s h f : Term} {a b c d e : Text} → is_absent h && is_absent f ≡ false → Word (codes "try") a b → Block s b c → Handler h c d → Finalizer f d e → Statement (try_of s h f) a e
+    try_statement : {s h f : Term} {a b c d e : Text} → is_try (three s h f) ≡ true → Word (codes "try") a b → Block s b c → Handler h c d → Finalizer f d e → Statement (try_of s h f) a e
     debugger : {a b c : Text} → Word (codes "debugger") a b → Semicolon plain b c → Statement (alone Kind.DebuggerStatement) a c
 
   -- declarations (14.3.1, 14.3.2, 15.2, 15.7)
