@@ -4,3 +4,6 @@ pub mod DerivedLines
 pub mod DerivedExpressions
 pub mod DerivedFunctions
 pub mod DerivedModules
+pub mod First
+pub mod Fronts
+pub mod Refutations

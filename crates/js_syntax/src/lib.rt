@@ -3,6 +3,7 @@
 //! The definitions stand in `specs/`; the functions here are laws over them and do nothing.
 #![tactic(auto)]
 
+ghost use Rattle.js_syntax.specs.Refuted.{Refuted};
 ghost use Rattle.js_syntax.specs.Examples.{LineExamples, ExpressionExamples, FunctionExamples, ModuleExamples};
 
 /// Texts that are written out spell what their pages say.
@@ -12,4 +13,10 @@ pub fn worked_examples()
     ensures expressions { ExpressionExamples }
     ensures functions { FunctionExamples }
     ensures modules { ModuleExamples }
+{}
+
+/// Texts that spell no module, and rules where the tables say no.
+#[tactic(auto, using(crate::proofs::Refutations::refuted))]
+pub fn refuted_texts()
+    ensures { Refuted }
 {}
