@@ -2,7 +2,7 @@
 use Rattle.std.proofs.Common.{◌≡◌, ℕ, ◌<◌, Bool, true, false, not, ◌&&◌, ◌||◌, cond, [], ◌∷◌, ◌++◌, Some, arith, refl, sym, ap, subst, ◌∙◌}
 use Rattle.std.specs.Prelude.{nat_eq, nat_lt}
 use Rattle.std.specs.List.{list_all, list_any}
-use Rattle.std.proofs.lemmas.Bool.{and_parts, and_from, or_parts, ne_eqb, or_left, not-true, lt-ltb, agree_below_at, false≢true}
+use Rattle.std.proofs.lemmas.Bool.{and_parts, and_from, or_parts, ne_eqb, or_left, not-true, lt-ltb, agree_below, agree_below_at, false≢true}
 use Rattle.std.proofs.lemmas.Bool.Decides.{nat_tests}
 use Rattle.js_term.specs.Term.{Text}
 use Rattle.js_term.specs.Lexeme.{is_line_end, is_blank, is_digit, is_start, is_part, goes_on, is_word, not_next, is_quote, is_one_of}
@@ -24,6 +24,9 @@ implied false b e h = absurd (false≢true h)
 
 abbrev always : ℕ → Bool
 always c = true
+
+pub from_table : (p q : ℕ → Bool) (c : ℕ) → agree_below (λ d. not (p d) || q d) always 128 ≡ true → c < 128 → p c ≡ true → q c ≡ true
+from_table p q c table below e = implied (p c) (q c) (agree_below_at (λ d. not (p d) || q d) always 128 c table below) e
 
 part_ascii : (c : ℕ) → is_part c ≡ true → is_ascii c ≡ true
 part_ascii c e = lt-ltb c 128 (part_below c e)

@@ -12,3 +12,6 @@ pub mod DerivedExpressions
 pub mod DerivedFunctions
 pub mod DerivedModules
 pub mod DerivedTrees
+pub mod First
+pub mod Fronts
+pub mod Refutations

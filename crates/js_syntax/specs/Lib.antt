@@ -12,6 +12,7 @@ pub mod Places
 pub mod Printable
 pub mod PrintableExamples
 pub mod Sorts
+pub mod Refuted
 pub mod Spelling
 pub mod Super
 pub mod Texts

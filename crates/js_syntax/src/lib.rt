@@ -8,6 +8,7 @@ ghost use Rattle.js_syntax.specs.Examples.{LineExamples, ExpressionExamples, Fun
 ghost use Rattle.js_syntax.specs.ModuleTreeExamples.{ModuleTreeExamples};
 ghost use Rattle.js_syntax.specs.Narrow.{NarrowIsSpelled};
 ghost use Rattle.js_syntax.specs.PrintableExamples.{PrintableExamples};
+ghost use Rattle.js_syntax.specs.Refuted.{Refuted};
 
 /// Texts that are written out spell what their pages say.
 #[tactic(auto, using(crate::proofs::DerivedLines::line_examples, crate::proofs::DerivedExpressions::expression_examples, crate::proofs::DerivedFunctions::function_examples, crate::proofs::DerivedModules::module_examples))]
@@ -34,4 +35,10 @@ pub fn printable_examples()
 #[tactic(auto, using(crate::proofs::DerivedTrees::module_tree_examples))]
 pub fn module_tree_examples()
     ensures { ModuleTreeExamples }
+{}
+
+/// Texts that spell no module, and rules where the tables say no.
+#[tactic(auto, using(crate::proofs::Refutations::refuted))]
+pub fn refuted_texts()
+    ensures { Refuted }
 {}
