@@ -1,8 +1,12 @@
+ghost use Rattle.js_tree.specs.BoundNames.{variables_names};
+ghost use Rattle.std.specs.Fn.{CalledAt};
+ghost use Rattle.std.specs.List.{FoldsTo};
+
 use crate::bag::{Bag, Waiting};
 use crate::class::Class;
 use crate::expression::Expression;
 use crate::function::Function;
-use crate::id::{LabelIdentifier, ScopeId, Span};
+use crate::id::{BindingIdentifier, LabelIdentifier, ScopeId, Span};
 use crate::module::{
     ExportAllDeclaration, ExportDeclaration, ExportDefaultDeclaration, ExportFromDeclaration,
     ExportNamedDeclaration, ImportDeclaration,
@@ -523,5 +527,18 @@ impl<E> ThrowStatement<E> {
     fn dismantle(self, expressions: &mut Waiting<E>) {
         let ThrowStatement { span: _, argument } = self;
         expressions.add_boxed(argument);
+    }
+}
+
+impl VariableDeclaration {
+    /// Calls `f` on each name that is declared, in text order (BoundNames).
+    pub fn bound_names<F: FnMut(&BindingIdentifier)>(&self, f: &mut F)
+        requires { F.IsAlwaysCallable f.old }
+        ensures called { FoldsTo (λ p n q. CalledAt F.FnMut p n tt q) f.old (variables_names self.now) f.new }
+        ensures callable { F.IsAlwaysCallable f.new }
+    {
+        for declarator in self.declarations.as_slice() {
+            declarator.id.bound_names(f);
+        }
     }
 }
