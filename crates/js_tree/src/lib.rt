@@ -19,6 +19,8 @@ mod operator;
 mod pattern;
 mod statement;
 mod target;
+#[cfg(test)]
+mod tests;
 
 pub use class::Class;
 pub use class::ClassBody;
