@@ -3,14 +3,12 @@ ghost use Rattle.std.specs.Prelude.{◌≡◌, ◌++◌, ◌||◌, map, option_m
 ghost use Rattle.serde_json.specs.View.{view};
 ghost use Rattle.serde_json.specs.Find.{at};
 ghost use Rattle.babel_values.specs.Entries.{last_among, last_entry};
-ghost use Rattle.transform_options.specs.PluginParts as parts;
-ghost use Rattle.transform_options.specs.Plugins as spec;
+ghost use Rattle.babel_options.specs.PluginParts as parts;
+ghost use Rattle.babel_options.specs.Plugins as spec;
 
-use crate::options::babel::plugins::{
-    BabelPlugins, SyntaxDecoratorOptions, SyntaxTypeScriptOptions,
-};
-use crate::options::babel::refusal::refusal;
-use crate::options::fault::OptionsFault;
+use crate::fault::OptionsFault;
+use crate::plugins::{BabelPlugins, SyntaxDecoratorOptions, SyntaxTypeScriptOptions};
+use crate::refusal::refusal;
 use babel_values::{
     entries_in, flag, has_entry, is_flag, is_named, is_text, last_entry, name_of, option_of, text,
 };

@@ -13,7 +13,7 @@ pub enum OptionsFault {
 
 impl From<AllocError> for OptionsFault {
     ghost use Rattle.std.specs.Prelude.{◌≡◌};
-    ghost use Rattle.transform_options.specs.declared.options.fault.OptionsFault.TheVariants.{NoMemory};
+    ghost use Rattle.babel_options.specs.declared.fault.OptionsFault.TheVariants.{NoMemory};
 
     ghost from_gives = { λ _ e. e ≡ NoMemory };
 

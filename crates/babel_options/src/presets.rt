@@ -1,4 +1,4 @@
-use crate::options::babel::env::BabelEnvOptions;
+use crate::env::BabelEnvOptions;
 use js_ident::Ident;
 
 /// What Babel's option `presets` has.

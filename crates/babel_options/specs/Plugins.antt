@@ -1,19 +1,19 @@
 -- What the entries of `plugins` come to.
-use Rattle.std.specs.Prelude.{◌≡◌, ℕ, List, [], ◌∷◌, ◌++◌, Bool, true, false, not, ◌&&◌, ◌||◌, Option, None, Some, is_some, option_map, if◌then◌else◌, unwrap_or, codes}
+use Rattle.std.specs.Prelude.{◌≡◌, ℕ, List, [], ◌∷◌, ◌++◌, Bool, true, false, ◌&&◌, ◌||◌, Option, None, Some, is_some, option_map, if◌then◌else◌, unwrap_or, codes}
 use Rattle.std.specs.List.{filter_map, list_any}
 use Rattle.std.specs.Str.{bytes_eq}
 use Rattle.serde_json.specs.Data.{Data}
-use Rattle.serde_json.specs.Find.{as_object, get}
+use Rattle.serde_json.specs.Find.{as_object}
 use Rattle.babel_values.specs.Entries.{entries_in, is_named, last_among, last_entry, name_of, option_of, value_of}
 use Rattle.babel_values.specs.Members.{flag, is_flag, is_text, text}
 use Rattle.transform_targets.specs.declared.feature.ESFeature.{ESFeature}
 use Rattle.transform_targets.specs.declared.feature.ESFeature.TheVariants.{ES2026ExplicitResourceManagement, ES2022ClassStaticBlock, ES2022ClassProperties, ES2022TopLevelAwait, ES2021LogicalAssignmentOperators, ES2020ExportNamespaceFrom, ES2020NullishCoalescingOperator, ES2020OptionalChaining, ES2020BigInt, ES2020ArbitraryModuleNamespaceNames, ES2019OptionalCatchBinding, ES2018ObjectRestSpread, ES2018AsyncGeneratorFunctions, ES2017AsyncToGenerator, ES2016ExponentiationOperator, ES2015ArrowFunctions, ES2015StickyRegex, ES2015UnicodeRegex, ES2018DotallRegex, ES2018LookbehindRegex, ES2018NamedCapturingGroupsRegex, ES2018UnicodePropertyRegex, ES2022MatchIndicesRegex, ES2024UnicodeSetsRegex}
-use Rattle.transform_options.specs.declared.options.babel.plugins.BabelPlugins.{BabelPlugins}
-use Rattle.transform_options.specs.declared.options.babel.plugins.SyntaxDecoratorOptions.{SyntaxDecoratorOptions}
-use Rattle.transform_options.specs.declared.options.babel.plugins.SyntaxTypeScriptOptions.{SyntaxTypeScriptOptions}
-use Rattle.transform_options.specs.declared.options.fault.OptionsFault.{OptionsFault}
-use Rattle.transform_options.specs.declared.options.fault.OptionsFault.TheVariants.{Refused, NoMemory}
-use Rattle.transform_options.specs.Switches.{row, entry_of, is_set}
+use Rattle.babel_options.specs.declared.plugins.BabelPlugins.{BabelPlugins}
+use Rattle.babel_options.specs.declared.plugins.SyntaxDecoratorOptions.{SyntaxDecoratorOptions}
+use Rattle.babel_options.specs.declared.plugins.SyntaxTypeScriptOptions.{SyntaxTypeScriptOptions}
+use Rattle.babel_options.specs.declared.fault.OptionsFault.{OptionsFault}
+use Rattle.babel_options.specs.declared.fault.OptionsFault.TheVariants.{Refused, NoMemory}
+use Rattle.babel_options.specs.Sources.{source_of, entry_of, is_set}
 
 abbrev pub Text : Type 0
 Text = List ℕ
@@ -27,7 +27,7 @@ has_any (Some name) items = has name items
 
 -- the plugin that has the feature lowered has an entry
 abbrev pub is_entered : List Data → ESFeature → Bool
-is_entered items feature = has_any (entry_of (row feature).source) items
+is_entered items feature = has_any (entry_of (source_of feature)) items
 
 -- the entries that set a field beside those of the switches
 abbrev pub other_names : List Text
@@ -55,7 +55,7 @@ is_one_of name names = list_any (λ other. bytes_eq name other) names
 
 -- the entries of the plugins that have these features lowered
 abbrev pub entries_of : List ESFeature → List Text
-entries_of features = filter_map (λ feature. entry_of (row feature).source) features
+entries_of features = filter_map (λ feature. entry_of (source_of feature)) features
 
 abbrev pub is_known : Text → Bool
 is_known name = is_one_of name other_names || is_one_of name (entries_of syntax_features)
@@ -114,7 +114,7 @@ plugins_error value = plugins_error_in (entries_in value)
 pub record IsPluginsOf (items : List Data) (plugins : BabelPlugins) : Type 0 where
   pub errors : plugins.errors.items ≡ []
   pub unsupported_are : plugins.unsupported.items ≡ unsupported items
-  pub switches : (feature : ESFeature) → is_set (row feature).source plugins ≡ is_entered items feature
+  pub switches : (feature : ESFeature) → is_set (source_of feature) plugins ≡ is_entered items feature
   pub syntax_typescript : plugins.syntax_typescript ≡ option_map type_script (last_among is_type_script None items)
   pub syntax_decorators : plugins.syntax_decorators
       ≡ option_map decorators (last_entry (codes "syntax-decorators") items)

@@ -3,8 +3,8 @@ use Rattle.std.specs.Prelude.{option_map}
 use Rattle.serde_json.specs.Data.{Data}
 use Rattle.serde_json.specs.View.{view}
 use Rattle.babel_values.specs.Entries.{last_among}
-use Rattle.transform_options.specs.Plugins as spec
-use Rattle.transform_options.proofs.options.babel.read_plugins.last_type_script.Given as goal
+use Rattle.babel_options.specs.Plugins as spec
+use Rattle.babel_options.proofs.read_plugins.last_type_script.Given as goal
 
 abbrev pub invariant-loop-item : goal.invariant-loop-item
 invariant-loop-item l = (found : Option Data) × (l.last ≡ option_map spec.type_script found)

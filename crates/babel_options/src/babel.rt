@@ -1,16 +1,8 @@
 ghost use Rattle.std.specs.Prelude.{◌≡◌, ◌↔◌, ◌⊎◌, IsTrue, ◌||◌, true, false, Some, codes};
-ghost use Rattle.transform_options.specs.Babel as spec;
+ghost use Rattle.babel_options.specs.Babel as spec;
 
-pub(crate) mod env;
-pub(crate) mod from_babel;
-pub(crate) mod plugins;
-pub(crate) mod presets;
-mod read_plugins;
-mod refusal;
-
+use crate::{BabelPlugins, BabelPresets};
 use js_ident::Ident;
-use plugins::BabelPlugins;
-use presets::BabelPresets;
 
 /// The systems that Babel's own tests run on.
 #[derive(Debug, Clone, Copy)]

@@ -1,7 +1,7 @@
 ghost use Rattle.std.specs.Prelude.{◌≡◌, ◌++◌, IfOk, string_bytes, Some};
-ghost use Rattle.transform_options.specs.Plugins.{RefusesOnce};
+ghost use Rattle.babel_options.specs.Plugins.{RefusesOnce};
 
-use crate::options::fault::OptionsFault;
+use crate::fault::OptionsFault;
 use js_ident::Ident;
 use std::alloc::{AllocError, Global};
 

@@ -1,10 +1,10 @@
 -- Plugins with the fields of some switches set.
 use Rattle.std.specs.Prelude.{Bool, List, ◌||◌, codes}
 use Rattle.serde_json.specs.Data.{Data}
-use Rattle.transform_options.specs.Plugins.{has}
+use Rattle.babel_options.specs.Plugins.{has}
 use Rattle.transform_targets.specs.declared.feature.ESFeature.{ESFeature}
-use Rattle.transform_targets.specs.declared.feature.ESFeature.TheVariants.{ES2026ExplicitResourceManagement, ES2022ClassStaticBlock, ES2022ClassProperties, ES2022TopLevelAwait, ES2021LogicalAssignmentOperators, ES2020ExportNamespaceFrom, ES2020NullishCoalescingOperator, ES2020OptionalChaining, ES2020BigInt, ES2020ArbitraryModuleNamespaceNames, ES2019OptionalCatchBinding, ES2018ObjectRestSpread, ES2018AsyncGeneratorFunctions, ES2017AsyncToGenerator, ES2016ExponentiationOperator, ES2015ArrowFunctions, ES2015StickyRegex, ES2015UnicodeRegex, ES2018DotallRegex, ES2018LookbehindRegex, ES2018NamedCapturingGroupsRegex, ES2018UnicodePropertyRegex, ES2022MatchIndicesRegex, ES2024UnicodeSetsRegex}
-use Rattle.transform_options.specs.declared.options.babel.plugins.BabelPlugins.{BabelPlugins}
+use Rattle.transform_targets.specs.declared.feature.ESFeature.TheVariants.{ES2026ExplicitResourceManagement, ES2022ClassStaticBlock, ES2022ClassProperties, ES2021LogicalAssignmentOperators, ES2020ExportNamespaceFrom, ES2020NullishCoalescingOperator, ES2020OptionalChaining, ES2019OptionalCatchBinding, ES2018ObjectRestSpread, ES2018AsyncGeneratorFunctions, ES2017AsyncToGenerator, ES2016ExponentiationOperator, ES2015ArrowFunctions, ES2015StickyRegex, ES2015UnicodeRegex, ES2018DotallRegex, ES2018LookbehindRegex, ES2018NamedCapturingGroupsRegex, ES2018UnicodePropertyRegex, ES2022MatchIndicesRegex, ES2024UnicodeSetsRegex}
+use Rattle.babel_options.specs.declared.plugins.BabelPlugins.{BabelPlugins}
 
 abbrev pub with_regexps : (ESFeature → Bool) → BabelPlugins → BabelPlugins
 with_regexps chosen plugins = record plugins {

@@ -1,5 +1,5 @@
 ghost use Rattle.std.specs.Prelude.{◌≡◌};
-ghost use Rattle.transform_options.specs.Switches.{row, is_set};
+ghost use Rattle.babel_options.specs.Sources.{source_of, is_set};
 
 use js_ident::Ident;
 use transform_targets::ESFeature;
@@ -54,8 +54,8 @@ pub struct BabelPlugins {
 
 impl BabelPlugins {
     /// Whether the plugin that has the feature lowered is there.
-    pub(crate) fn has(&self, feature: ESFeature) -> bool
-        ensures { result ≡ is_set (row feature).source self.now }
+    pub fn has(&self, feature: ESFeature) -> bool
+        ensures { result ≡ is_set (source_of feature) self.now }
     {
         match feature {
             ESFeature::ES2026ExplicitResourceManagement => self.explicit_resource_management,

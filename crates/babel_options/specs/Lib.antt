@@ -1,0 +1,4 @@
+pub mod Babel
+pub mod PluginParts
+pub mod Plugins
+pub mod Sources

@@ -1,0 +1,16 @@
+//! Babel's options, read from values of JSON.
+#![tactic(auto)]
+
+mod babel;
+mod env;
+mod fault;
+mod plugins;
+mod presets;
+mod read_plugins;
+mod refusal;
+
+pub use babel::{BabelOptions, TestOs};
+pub use env::{BabelEnvOptions, BabelModule};
+pub use fault::OptionsFault;
+pub use plugins::{BabelPlugins, SyntaxDecoratorOptions, SyntaxTypeScriptOptions};
+pub use presets::BabelPresets;
