@@ -1,4 +1,6 @@
 pub mod Babel
+pub mod Env
 pub mod PluginParts
 pub mod Plugins
+pub mod Presets
 pub mod Sources

@@ -6,7 +6,9 @@ mod env;
 mod fault;
 mod plugins;
 mod presets;
+mod read_env;
 mod read_plugins;
+mod read_presets;
 mod refusal;
 
 pub use babel::{BabelOptions, TestOs};
