@@ -1,5 +1,5 @@
 -- Levels that have been read, together.
-use Rattle.std.proofs.Common.{◌≡◌, List, [], Bool, true, false, Option, None, Some, is_some, option_map, unwrap_or, refl, sym, ap, subst, ◌∙◌}
+use Rattle.std.proofs.Common.{◌≡◌, [], Bool, Option, None, Some, is_some, option_map, unwrap_or, refl, sym, ap, subst, ◌∙◌}
 use Rattle.std.specs.Option.{option_or}
 use Rattle.serde_json.specs.Data.{Data}
 use Rattle.babel_options.specs.Levels as levels
@@ -97,7 +97,7 @@ suite_read shown suite category s c beside r has is_suite is_category given used
     let kept : levels.beside_suite (is_some (option_map shown suite)) c ≡ beside =
     ap (λ b. levels.beside_suite b c) (sym (given ∙ is_some-shown shown suite)) ∙ sym used in
     subst both (ap (levels.both s) kept ∙ sym made)
-        (both_levels _ _ s _ is_suite (beside_given (option_map shown suite) category c is_category))
+    (both_levels _ _ s _ is_suite (beside_given (option_map shown suite) category c is_category))
 
 or_none : (a : Option Level) (r : Option declared.Level) (none : declared.Level) → AreLevels a r → IsLevel no_level none
     → IsLevel (unwrap_or a no_level) (unwrap_or r none)
@@ -110,5 +110,5 @@ pub merged_read : (task suite : Option Level) (t s both : Option declared.Level)
 merged_read task suite t s both level none options is_task is_suite is_none together chosen made =
     let chosen_from : unwrap_or (levels.both t s) none ≡ level = ap (λ b. unwrap_or b none) (sym together) ∙ sym chosen in
     finished _ level options
-        (subst (IsLevel (unwrap_or (spec.both task suite) no_level)) chosen_from
-        (or_none _ _ none (both_levels task suite t s is_task is_suite) is_none)) made
+    (subst (IsLevel (unwrap_or (spec.both task suite) no_level)) chosen_from
+    (or_none _ _ none (both_levels task suite t s is_task is_suite) is_none)) made

@@ -13,6 +13,5 @@ refuses_first (Some error) b (Refused errors) refuses = refuses
 pub refuses_later : (a b : Option Text) (fault : OptionsFault) → a ≡ None → RefusesOnce b fault → RefusesOnce (option_or a b) fault
 refuses_later a b fault none refuses = subst (λ (first : Option Text). RefusesOnce (option_or first b) fault) (sym none) refuses
 
-
 pub no_error : (a b : Option Text) → a ≡ None → b ≡ None → option_or a b ≡ None
 no_error a b none no_later = ap (λ (first : Option Text). option_or first b) none ∙ no_later

@@ -1,5 +1,6 @@
 pub mod Babel
 pub mod Env
+pub mod Faults
 pub mod Levels
 pub mod Options
 pub mod PluginParts

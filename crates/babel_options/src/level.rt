@@ -170,10 +170,7 @@ impl Level {
     }
 }
 
-fn plugins_or_none(
-    alloc: Global,
-    plugins: Option<BabelPlugins>,
-) -> Result<BabelPlugins, AllocError>
+fn plugins_or_none(alloc: Global, plugins: Option<BabelPlugins>) -> Result<BabelPlugins, AllocError>
     ensures { IfOk result (levels.OrNoPlugins plugins) }
 {
     match plugins {
@@ -182,10 +179,7 @@ fn plugins_or_none(
     }
 }
 
-fn presets_or_none(
-    alloc: Global,
-    presets: Option<BabelPresets>,
-) -> Result<BabelPresets, AllocError>
+fn presets_or_none(alloc: Global, presets: Option<BabelPresets>) -> Result<BabelPresets, AllocError>
     ensures { IfOk result (levels.OrNoPresets presets) }
 {
     match presets {

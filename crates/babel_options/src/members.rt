@@ -145,10 +145,7 @@ pub(crate) fn lists_in(
     Ok((plugins, presets))
 }
 
-fn plugins_in(
-    alloc: Global,
-    member: Option<&Value>,
-) -> Result<Option<BabelPlugins>, OptionsFault>
+fn plugins_in(alloc: Global, member: Option<&Value>) -> Result<Option<BabelPlugins>, OptionsFault>
     ensures sound { IfOk result (λ _. option_and_then plugins_error (option_map (λ v. view v.now) member.entry) ≡ None) }
     ensures made { IfOk result (ArePlugins (option_map (λ v. view v.now) member.entry)) }
     ensures refused { IfErr result (RefusesOnce (option_and_then plugins_error (option_map (λ v. view v.now) member.entry))) }
@@ -162,10 +159,7 @@ fn plugins_in(
     }
 }
 
-fn presets_in(
-    alloc: Global,
-    member: Option<&Value>,
-) -> Result<Option<BabelPresets>, OptionsFault>
+fn presets_in(alloc: Global, member: Option<&Value>) -> Result<Option<BabelPresets>, OptionsFault>
     ensures sound { IfOk result (λ _. option_and_then presets_error (option_map (λ v. view v.now) member.entry) ≡ None) }
     ensures made { IfOk result (ArePresets (option_map (λ v. view v.now) member.entry)) }
     ensures refused { IfErr result (RefusesOnce (option_and_then presets_error (option_map (λ v. view v.now) member.entry))) }

@@ -16,12 +16,13 @@ mod options;
 mod plugins;
 mod proposals;
 mod regexp;
+mod switch;
 #[cfg(test)]
 mod tests;
 
 pub use babel_options::{
     BabelEnvOptions, BabelModule, BabelOptions, BabelPlugins, BabelPresets, OptionsFault,
-    SyntaxDecoratorOptions, SyntaxTypeScriptOptions, TestOs,
+    SyntaxDecoratorOptions, SyntaxTypeScriptOptions, TestOs, merge_levels,
 };
 pub use common::helper_loader::HelperLoaderMode;
 pub use es2015::ES2015Options;
@@ -39,6 +40,7 @@ pub use options::module::Module;
 pub use plugins::PluginsOptions;
 pub use proposals::ProposalOptions;
 pub use regexp::RegExpOptions;
+pub use switch::Switch;
 pub use transform_targets::{
     ESFeature, ESTarget, Engine, EngineTargets, FeatureTable, Support, Version,
 };
