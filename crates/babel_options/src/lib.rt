@@ -13,6 +13,8 @@ mod read_options;
 mod read_plugins;
 mod read_presets;
 mod refusal;
+#[cfg(test)]
+mod tests;
 
 pub use babel::{BabelOptions, TestOs};
 pub use env::{BabelEnvOptions, BabelModule};
