@@ -1,3 +1,1 @@
-mod Entered
-mod Items
 mod Rows

@@ -2,5 +2,3 @@ pub mod Parts
 pub mod Switches
 pub mod Plain
 pub mod Babel
-pub mod PluginParts
-pub mod Plugins

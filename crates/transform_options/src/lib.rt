@@ -16,9 +16,14 @@ mod options;
 mod plugins;
 mod proposals;
 mod regexp;
+mod switch;
 #[cfg(test)]
 mod tests;
 
+pub use babel_options::{
+    BabelEnvOptions, BabelModule, BabelOptions, BabelPlugins, BabelPresets, OptionsFault,
+    SyntaxDecoratorOptions, SyntaxTypeScriptOptions, TestOs, merge_levels,
+};
 pub use common::helper_loader::HelperLoaderMode;
 pub use es2015::ES2015Options;
 pub use es2016::ES2016Options;
@@ -30,16 +35,12 @@ pub use es2021::ES2021Options;
 pub use es2022::ES2022Options;
 pub use es2026::ES2026Options;
 pub use options::TransformOptions;
-pub use options::babel::env::{BabelEnvOptions, BabelModule};
-pub use options::babel::plugins::{BabelPlugins, SyntaxDecoratorOptions, SyntaxTypeScriptOptions};
-pub use options::babel::presets::BabelPresets;
-pub use options::babel::{BabelOptions, TestOs};
 pub use options::env::EnvOptions;
-pub use options::fault::OptionsFault;
 pub use options::module::Module;
 pub use plugins::PluginsOptions;
 pub use proposals::ProposalOptions;
 pub use regexp::RegExpOptions;
+pub use switch::Switch;
 pub use transform_targets::{
     ESFeature, ESTarget, Engine, EngineTargets, FeatureTable, Support, Version,
 };

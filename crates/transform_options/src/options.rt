@@ -7,9 +7,8 @@ ghost use Rattle.transform_targets.specs.Features.{year};
 ghost use Rattle.transform_targets.specs.Targets.{edition_year};
 ghost use Rattle.transform_targets.specs.Words.{targets_of, words_of, IsFaultOf};
 
-pub(crate) mod babel;
 pub(crate) mod env;
-pub(crate) mod fault;
+mod from_babel;
 pub(crate) mod module;
 
 use crate::choice::Choice;

@@ -19,3 +19,4 @@ pub use feature::ESFeature;
 pub use feature_table::{FeatureTable, Support};
 pub use target_fault::TargetFault;
 pub use version::Version;
+pub use words::{engine_named, version_in};

@@ -75,7 +75,8 @@ fn edition_named(word: &str) -> Option<ESTarget>
     }
 }
 
-fn engine_named(name: &str) -> Option<Engine>
+/// The engine of this name.
+pub fn engine_named(name: &str) -> Option<Engine>
     ensures { result ≡ spec.engine_of name.now }
 {
     match name {
@@ -179,7 +180,8 @@ pub(crate) fn cut_at(separator: char, text: &str) -> Option<(&str, &str)>
     text.split_once(separator)
 }
 
-fn version_in(text: &str) -> Option<Version>
+/// The version that the text writes, as `A`, `A.B` or `A.B.C`.
+pub fn version_in(text: &str) -> Option<Version>
     ensures { result ≡ spec.version_in text.now }
 {
     match cut_at('.', text) {

@@ -1,8 +1,7 @@
 ghost use Rattle.std.specs.Prelude.{◌≡◌, ◌↔◌, IsTrue};
 ghost use Rattle.transform_options.specs.Babel as spec;
 
-use crate::options::babel::env::BabelModule;
-use crate::options::babel::plugins::BabelPlugins;
+use babel_options::{BabelModule, BabelPlugins};
 
 /// The form of module that code is made into.
 #[derive(Debug, Default, Clone, Copy)]

@@ -1,0 +1,5 @@
+mod Entered
+mod Items
+mod Levels
+mod Named
+mod Refusals

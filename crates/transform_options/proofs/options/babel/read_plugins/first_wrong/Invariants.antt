@@ -1,8 +1,0 @@
-use Rattle.std.proofs.Common.{◌≡◌, drop, map}
-use Rattle.serde_json.specs.View.{view}
-use Rattle.transform_options.specs.Plugins as spec
-use Rattle.transform_options.proofs.options.babel.read_plugins.first_wrong.Given as goal
-
-abbrev pub invariant-loop-item : goal.invariant-loop-item
-invariant-loop-item l =
-    spec.first_wrong (map view (drop l.item-index l.items)) ≡ spec.first_wrong (map view l.items)
