@@ -7,3 +7,4 @@ pub mod DerivedModules
 pub mod First
 pub mod Fronts
 pub mod Refutations
+pub mod Unicode

@@ -2,6 +2,7 @@ pub mod Edges
 pub mod Examples
 pub mod Lexical
 pub mod Modules
+pub mod Names
 pub mod Nodes
 pub mod Refuted
 pub mod Spelling

@@ -3,6 +3,7 @@
 //! The definitions stand in `specs/`; the functions here are laws over them and do nothing.
 #![tactic(auto)]
 
+ghost use Rattle.js_syntax.specs.Names.{NamesAgree};
 ghost use Rattle.js_syntax.specs.Refuted.{Refuted};
 ghost use Rattle.js_syntax.specs.Examples.{LineExamples, ExpressionExamples, FunctionExamples, ModuleExamples};
 
@@ -19,4 +20,10 @@ pub fn worked_examples()
 #[tactic(auto, using(crate::proofs::Refutations::refuted))]
 pub fn refuted_texts()
     ensures { Refuted }
+{}
+
+/// The tests of names say what Unicode's sets say, at ASCII texts too.
+#[tactic(auto, using(crate::proofs::Unicode::names_agree))]
+pub fn names_agree()
+    ensures { NamesAgree }
 {}
