@@ -8,3 +8,4 @@ pub mod First
 pub mod Fronts
 pub mod Refutations
 pub mod Unicode
+pub mod Placed

@@ -1,5 +1,6 @@
 pub mod Edges
 pub mod Examples
+pub mod Levels
 pub mod Lexical
 pub mod Modules
 pub mod Names

@@ -3,6 +3,7 @@
 //! The definitions stand in `specs/`; the functions here are laws over them and do nothing.
 #![tactic(auto)]
 
+ghost use Rattle.js_syntax.specs.Levels.{Levels};
 ghost use Rattle.js_syntax.specs.Names.{NamesAgree};
 ghost use Rattle.js_syntax.specs.Refuted.{Refuted};
 ghost use Rattle.js_syntax.specs.Examples.{LineExamples, ExpressionExamples, FunctionExamples, ModuleExamples};
@@ -26,4 +27,10 @@ pub fn refuted_texts()
 #[tactic(auto, using(crate::proofs::Unicode::names_agree))]
 pub fn names_agree()
     ensures { NamesAgree }
+{}
+
+/// What stands with a level has it by its tree, and its operands stand at their places.
+#[tactic(auto, using(crate::proofs::Placed::levels))]
+pub fn levels()
+    ensures { Levels }
 {}
