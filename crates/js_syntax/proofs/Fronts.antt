@@ -3,22 +3,18 @@ use Rattle.std.proofs.Common.{◌≡◌, refl, ℕ, ◌<◌, Bool, true, false, 
 use Rattle.std.specs.Prelude.{codes, nat_eq, nat_lt, option_map}
 use Rattle.std.specs.List.{list_all}
 use Rattle.std.specs.Str.{is_utf8, chars}
-use Rattle.std.specs.Char.{is_ascii_alphabetic}
-use Rattle.std.proofs.lemmas.Bool.{agree_below_at, and_parts, or_left, or_right, or_cases, lt-ltb, eqb-true, cases_lt, false≢true, true≢false}
+use Rattle.std.proofs.lemmas.Bool.{and_parts, or_left, or_right, or_cases, lt-ltb, eqb-true, cases_lt, false≢true, true≢false}
 use Rattle.std.proofs.lemmas.Bool.Decides.{nat_tests}
-use Rattle.unicode_ident.proofs.IdentLemmas.{is_xid_start-ascii}
-use Rattle.js_chars.specs.Names.{is_identifier_start, is_identifier_name}
+use Rattle.js_chars.specs.Names.{is_identifier_name}
 use Rattle.js_term.specs.Term.{Text, is_text}
 use Rattle.js_term.specs.Lexeme.{between, is_digit, is_start, is_part, goes_on, is_word, is_one_of}
 use Rattle.js_syntax.specs.Lexical.{has_byte, are_digits, is_ascii, is_name, is_e, is_point, up_to, onward, is_numeral, is_decimal_literal, is_mantissa, is_integer, is_radix_integer, without_last, passes, is_big_integer}
 use Rattle.js_syntax.specs.Tokens.{Lexeme, string, sign, signs, Lexed, is_private_name, is_number, is_bigint, is_string, is_regexp, is_no_substitution, is_head, is_middle, is_tail, is_punctuator}
 use Rattle.js_syntax.specs.Tokens
+use Rattle.js_syntax.proofs.Unicode.{start-ascii, chars_ascii}
 use Rattle.js_syntax.proofs.First.{begins_item}
 
 -- what begins an item, but for strings: bytes of names and numbers, and those of signs, templates and regular expressions
-abbrev pub sign_bytes : Text
-sign_bytes = codes "([{;+-~!"
-
 abbrev pub may_begin : ℕ → Bool
 may_begin c = goes_on c || has_byte (codes ".`/#([{;+-~!") c
 
@@ -31,19 +27,8 @@ goes_may c e = or_left (goes_on c) _ e
 
 -- ---- names
 
-abbrev letter_start : ℕ → Bool
-letter_start c = is_ascii_alphabetic c || nat_eq c 36 || nat_eq c 95
-
-start-ascii : (c : ℕ) → c < 128 → is_identifier_start c ≡ is_start c
-start-ascii c ascii = ap (λ b. b || nat_eq c 36 || nat_eq c 95) (is_xid_start-ascii c ascii) ∙ agree_below_at letter_start is_start 128 c refl ascii
-
 start_goes : (c : ℕ) → is_start c ≡ true → goes_on c ≡ true
 start_goes c e = or_left (is_part c) _ (or_left (is_start c) _ e)
-
-chars_ascii : (c : ℕ) (cs : Text) → nat_lt c 128 ≡ true → chars (c ∷ cs) ≡ c ∷ chars cs
-unfolding chars
-chars_ascii c [] e = rw e refl
-chars_ascii c (d ∷ ds) e = rw e refl
 
 pub name_start : (c : ℕ) (cs : Text) (ascii : Bool) → c < 128 → cond ascii (is_word (c ∷ cs)) (is_utf8 (c ∷ cs) && is_identifier_name (chars (c ∷ cs))) ≡ true → is_start c ≡ true
 name_start c cs true below e = (and_parts _ _ e).0

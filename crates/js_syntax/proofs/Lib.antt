@@ -15,3 +15,5 @@ pub mod DerivedTrees
 pub mod First
 pub mod Fronts
 pub mod Refutations
+pub mod Unicode
+pub mod Placed

@@ -12,6 +12,7 @@ use Rattle.js_syntax.specs.Refuted.{Refuted}
 use Rattle.js_syntax.specs.Spelling.{Directives, no_directives, directive}
 use Rattle.js_syntax.specs.Modules.{Spells, spells, Hashbang, no_hashbang, hashbang, ModuleItems, no_more_items, next_item}
 use Rattle.js_syntax.proofs.Ascii.{from_table}
+use Rattle.js_syntax.proofs.Placed.{stands_fits}
 use Rattle.js_syntax.proofs.First.{begins_item, First, first_token, module_item_first}
 use Rattle.js_syntax.proofs.Fronts.{may_begin, is_string_token, lexed_may, among, implies, same_text, name_start}
 
@@ -190,10 +191,10 @@ refuted = record {
   an_open_string = open_string;
   an_open_comment = open_comment;
   no_digits = no_digits;
-  a_power_of_a_sign = λ h. omega arith;
-  no_other_level = refl;
-  or_of_a_coalescing = λ h. omega arith;
-  coalescing_of_an_or = refl;
+  a_power_of_a_sign = λ s. false≢true (stands_fits s);
+  an_or_of_a_coalescing = λ s. false≢true (stands_fits s);
+  a_coalescing_of_an_or = λ s. false≢true (stands_fits s);
+  a_new_of_a_call = λ s. false≢true (stands_fits s);
   a_call_goes_on = refl;
   a_division_goes_on = refl;
   no_call_of_an_update = refl;

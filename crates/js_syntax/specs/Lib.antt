@@ -1,11 +1,13 @@
 pub mod Edges
 pub mod Everywhere
 pub mod Examples
+pub mod Levels
 pub mod Lexical
 pub mod ModuleTree
 pub mod ModuleTreeExamples
 pub mod Modules
 pub mod Narrow
+pub mod Names
 pub mod Nodes
 pub mod Parts
 pub mod Places

@@ -5,7 +5,9 @@
 #![tactic(auto)]
 
 ghost use Rattle.js_syntax.specs.Examples.{LineExamples, ExpressionExamples, FunctionExamples, ModuleExamples};
+ghost use Rattle.js_syntax.specs.Levels.{Levels};
 ghost use Rattle.js_syntax.specs.ModuleTreeExamples.{ModuleTreeExamples};
+ghost use Rattle.js_syntax.specs.Names.{NamesAgree};
 ghost use Rattle.js_syntax.specs.Narrow.{NarrowIsSpelled};
 ghost use Rattle.js_syntax.specs.PrintableExamples.{PrintableExamples};
 ghost use Rattle.js_syntax.specs.Refuted.{Refuted};
@@ -41,4 +43,16 @@ pub fn module_tree_examples()
 #[tactic(auto, using(crate::proofs::Refutations::refuted))]
 pub fn refuted_texts()
     ensures { Refuted }
+{}
+
+/// The tests of names say what Unicode's sets say, at ASCII texts too.
+#[tactic(auto, using(crate::proofs::Unicode::names_agree))]
+pub fn names_agree()
+    ensures { NamesAgree }
+{}
+
+/// What stands with a level has it by its tree, and its operands stand at their places.
+#[tactic(auto, using(crate::proofs::Placed::levels))]
+pub fn levels()
+    ensures { Levels }
 {}
