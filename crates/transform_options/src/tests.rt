@@ -1,6 +1,4 @@
-use crate::{
-    BabelOptions, EnvOptions, HelperLoaderMode, OptionsFault, Switch, TransformOptions,
-};
+use crate::{BabelOptions, EnvOptions, HelperLoaderMode, OptionsFault, Switch, TransformOptions};
 use js_ident::Ident;
 use serde_json::Value;
 use std::alloc::{AllocError, Global};
@@ -10,58 +8,183 @@ use transform_targets::{ESFeature, ESTarget, Engine, FeatureTable, Version};
 
 // Each switch with its feature and the entry of its plugin.
 const ROWS: [(&str, ESFeature, &str); 24] = [
-    ("es2026.explicit_resource_management ", ESFeature::ES2026ExplicitResourceManagement, "transform-explicit-resource-management"),
-    ("es2022.class_static_block ", ESFeature::ES2022ClassStaticBlock, "transform-class-static-block"),
-    ("es2022.class_properties ", ESFeature::ES2022ClassProperties, "transform-class-properties"),
-    ("es2022.top_level_await ", ESFeature::ES2022TopLevelAwait, ""),
-    ("es2021.logical_assignment_operators ", ESFeature::ES2021LogicalAssignmentOperators, "transform-logical-assignment-operators"),
-    ("es2020.export_namespace_from ", ESFeature::ES2020ExportNamespaceFrom, "transform-export-namespace-from"),
-    ("es2020.nullish_coalescing_operator ", ESFeature::ES2020NullishCoalescingOperator, "transform-nullish-coalescing-operator"),
-    ("es2020.optional_chaining ", ESFeature::ES2020OptionalChaining, "transform-optional-chaining"),
+    (
+        "es2026.explicit_resource_management ",
+        ESFeature::ES2026ExplicitResourceManagement,
+        "transform-explicit-resource-management",
+    ),
+    (
+        "es2022.class_static_block ",
+        ESFeature::ES2022ClassStaticBlock,
+        "transform-class-static-block",
+    ),
+    (
+        "es2022.class_properties ",
+        ESFeature::ES2022ClassProperties,
+        "transform-class-properties",
+    ),
+    (
+        "es2022.top_level_await ",
+        ESFeature::ES2022TopLevelAwait,
+        "",
+    ),
+    (
+        "es2021.logical_assignment_operators ",
+        ESFeature::ES2021LogicalAssignmentOperators,
+        "transform-logical-assignment-operators",
+    ),
+    (
+        "es2020.export_namespace_from ",
+        ESFeature::ES2020ExportNamespaceFrom,
+        "transform-export-namespace-from",
+    ),
+    (
+        "es2020.nullish_coalescing_operator ",
+        ESFeature::ES2020NullishCoalescingOperator,
+        "transform-nullish-coalescing-operator",
+    ),
+    (
+        "es2020.optional_chaining ",
+        ESFeature::ES2020OptionalChaining,
+        "transform-optional-chaining",
+    ),
     ("es2020.big_int ", ESFeature::ES2020BigInt, ""),
-    ("es2020.arbitrary_module_namespace_names ", ESFeature::ES2020ArbitraryModuleNamespaceNames, ""),
-    ("es2019.optional_catch_binding ", ESFeature::ES2019OptionalCatchBinding, "transform-optional-catch-binding"),
-    ("es2018.object_rest_spread ", ESFeature::ES2018ObjectRestSpread, "transform-object-rest-spread"),
-    ("es2018.async_generator_functions ", ESFeature::ES2018AsyncGeneratorFunctions, "transform-async-generator-functions"),
-    ("es2017.async_to_generator ", ESFeature::ES2017AsyncToGenerator, "transform-async-to-generator"),
-    ("es2016.exponentiation_operator ", ESFeature::ES2016ExponentiationOperator, "transform-exponentiation-operator"),
-    ("es2015.arrow_function ", ESFeature::ES2015ArrowFunctions, "transform-arrow-functions"),
-    ("regexp.sticky_flag ", ESFeature::ES2015StickyRegex, "transform-sticky-regex"),
-    ("regexp.unicode_flag ", ESFeature::ES2015UnicodeRegex, "transform-unicode-regex"),
-    ("regexp.dot_all_flag ", ESFeature::ES2018DotallRegex, "transform-dotall-regex"),
-    ("regexp.look_behind_assertions ", ESFeature::ES2018LookbehindRegex, "esbuild-regexp-lookbehind-assertions"),
-    ("regexp.named_capture_groups ", ESFeature::ES2018NamedCapturingGroupsRegex, "transform-named-capturing-groups-regex"),
-    ("regexp.unicode_property_escapes ", ESFeature::ES2018UnicodePropertyRegex, "transform-unicode-property-regex"),
-    ("regexp.match_indices ", ESFeature::ES2022MatchIndicesRegex, "esbuild-regexp-match-indices"),
-    ("regexp.set_notation ", ESFeature::ES2024UnicodeSetsRegex, "transform-unicode-sets-regex"),
+    (
+        "es2020.arbitrary_module_namespace_names ",
+        ESFeature::ES2020ArbitraryModuleNamespaceNames,
+        "",
+    ),
+    (
+        "es2019.optional_catch_binding ",
+        ESFeature::ES2019OptionalCatchBinding,
+        "transform-optional-catch-binding",
+    ),
+    (
+        "es2018.object_rest_spread ",
+        ESFeature::ES2018ObjectRestSpread,
+        "transform-object-rest-spread",
+    ),
+    (
+        "es2018.async_generator_functions ",
+        ESFeature::ES2018AsyncGeneratorFunctions,
+        "transform-async-generator-functions",
+    ),
+    (
+        "es2017.async_to_generator ",
+        ESFeature::ES2017AsyncToGenerator,
+        "transform-async-to-generator",
+    ),
+    (
+        "es2016.exponentiation_operator ",
+        ESFeature::ES2016ExponentiationOperator,
+        "transform-exponentiation-operator",
+    ),
+    (
+        "es2015.arrow_function ",
+        ESFeature::ES2015ArrowFunctions,
+        "transform-arrow-functions",
+    ),
+    (
+        "regexp.sticky_flag ",
+        ESFeature::ES2015StickyRegex,
+        "transform-sticky-regex",
+    ),
+    (
+        "regexp.unicode_flag ",
+        ESFeature::ES2015UnicodeRegex,
+        "transform-unicode-regex",
+    ),
+    (
+        "regexp.dot_all_flag ",
+        ESFeature::ES2018DotallRegex,
+        "transform-dotall-regex",
+    ),
+    (
+        "regexp.look_behind_assertions ",
+        ESFeature::ES2018LookbehindRegex,
+        "esbuild-regexp-lookbehind-assertions",
+    ),
+    (
+        "regexp.named_capture_groups ",
+        ESFeature::ES2018NamedCapturingGroupsRegex,
+        "transform-named-capturing-groups-regex",
+    ),
+    (
+        "regexp.unicode_property_escapes ",
+        ESFeature::ES2018UnicodePropertyRegex,
+        "transform-unicode-property-regex",
+    ),
+    (
+        "regexp.match_indices ",
+        ESFeature::ES2022MatchIndicesRegex,
+        "esbuild-regexp-match-indices",
+    ),
+    (
+        "regexp.set_notation ",
+        ESFeature::ES2024UnicodeSetsRegex,
+        "transform-unicode-sets-regex",
+    ),
 ];
 
 // The switches that are on.
 fn shown(alloc: Global, env: &EnvOptions) -> Result<String, AllocError> {
     let mut shown = String::new(alloc);
     for (name, is_on) in [
-        ("es2026.explicit_resource_management ", env.es2026.explicit_resource_management),
+        (
+            "es2026.explicit_resource_management ",
+            env.es2026.explicit_resource_management,
+        ),
         ("es2022.class_static_block ", env.es2022.class_static_block),
         ("es2022.class_properties ", env.es2022.class_properties),
         ("es2022.top_level_await ", env.es2022.top_level_await),
-        ("es2021.logical_assignment_operators ", env.es2021.logical_assignment_operators),
-        ("es2020.export_namespace_from ", env.es2020.export_namespace_from),
-        ("es2020.nullish_coalescing_operator ", env.es2020.nullish_coalescing_operator),
+        (
+            "es2021.logical_assignment_operators ",
+            env.es2021.logical_assignment_operators,
+        ),
+        (
+            "es2020.export_namespace_from ",
+            env.es2020.export_namespace_from,
+        ),
+        (
+            "es2020.nullish_coalescing_operator ",
+            env.es2020.nullish_coalescing_operator,
+        ),
         ("es2020.optional_chaining ", env.es2020.optional_chaining),
         ("es2020.big_int ", env.es2020.big_int),
-        ("es2020.arbitrary_module_namespace_names ", env.es2020.arbitrary_module_namespace_names),
-        ("es2019.optional_catch_binding ", env.es2019.optional_catch_binding),
+        (
+            "es2020.arbitrary_module_namespace_names ",
+            env.es2020.arbitrary_module_namespace_names,
+        ),
+        (
+            "es2019.optional_catch_binding ",
+            env.es2019.optional_catch_binding,
+        ),
         ("es2018.object_rest_spread ", env.es2018.object_rest_spread),
-        ("es2018.async_generator_functions ", env.es2018.async_generator_functions),
+        (
+            "es2018.async_generator_functions ",
+            env.es2018.async_generator_functions,
+        ),
         ("es2017.async_to_generator ", env.es2017.async_to_generator),
-        ("es2016.exponentiation_operator ", env.es2016.exponentiation_operator),
+        (
+            "es2016.exponentiation_operator ",
+            env.es2016.exponentiation_operator,
+        ),
         ("es2015.arrow_function ", env.es2015.arrow_function),
         ("regexp.sticky_flag ", env.regexp.sticky_flag),
         ("regexp.unicode_flag ", env.regexp.unicode_flag),
         ("regexp.dot_all_flag ", env.regexp.dot_all_flag),
-        ("regexp.look_behind_assertions ", env.regexp.look_behind_assertions),
-        ("regexp.named_capture_groups ", env.regexp.named_capture_groups),
-        ("regexp.unicode_property_escapes ", env.regexp.unicode_property_escapes),
+        (
+            "regexp.look_behind_assertions ",
+            env.regexp.look_behind_assertions,
+        ),
+        (
+            "regexp.named_capture_groups ",
+            env.regexp.named_capture_groups,
+        ),
+        (
+            "regexp.unicode_property_escapes ",
+            env.regexp.unicode_property_escapes,
+        ),
         ("regexp.match_indices ", env.regexp.match_indices),
         ("regexp.set_notation ", env.regexp.set_notation),
     ] {
@@ -88,6 +211,10 @@ fn table_without(alloc: Global, lacking: ESFeature) -> Result<FeatureTable, Allo
     }
     table.set(lacking, Engine::Chrome, chrome(81))?;
     Ok(table)
+}
+
+fn unless(is_off: bool, name: &str) -> &str {
+    if is_off { "" } else { name }
 }
 
 fn babel(alloc: Global, text: &str, table: &FeatureTable) -> Result<TransformOptions, Fail> {
@@ -122,8 +249,7 @@ fn each_switch_from_its_plugin(rt: HostRuntime) -> Result<(), Fail> {
         let on = shown(alloc, &made.env)?;
         // the preset alone decides this one
         let is_beside = name == "regexp.match_indices ";
-        let expected = if is_beside || entry.is_empty() { "" } else { name };
-        assert_eq!(rt; on.as_str(), expected);
+        assert_eq!(rt; on.as_str(), unless(is_beside || entry.is_empty(), name));
     }
     Ok(())
 }
@@ -133,11 +259,15 @@ fn each_switch_from_the_preset(rt: HostRuntime) -> Result<(), Fail> {
     let alloc = rt.alloc();
     for (name, feature, _) in ROWS {
         let table = table_without(alloc, feature)?;
-        let made = babel(alloc, r#"{"presets":[["env",{"targets":{"chrome":80}}]]}"#, &table)?;
+        let made = babel(
+            alloc,
+            r#"{"presets":[["env",{"targets":{"chrome":80}}]]}"#,
+            &table,
+        )?;
         let on = shown(alloc, &made.env)?;
         // its plugin alone decides this one
         let is_plugin_alone = name == "es2026.explicit_resource_management ";
-        assert_eq!(rt; on.as_str(), if is_plugin_alone { "" } else { name });
+        assert_eq!(rt; on.as_str(), unless(is_plugin_alone, name));
     }
     Ok(())
 }
