@@ -18,7 +18,10 @@ const WRONG_OPTIONS: [(&str, &str); 33] = [
     (r#"{"cwd":1}"#, "cwd: wrong shape"),
     (r#"{"sourceType":true}"#, "sourceType: wrong shape"),
     (r#"{"throws":["text"]}"#, "throws: wrong shape"),
-    (r#"{"BABEL_8_BREAKING":"true"}"#, "BABEL_8_BREAKING: wrong shape"),
+    (
+        r#"{"BABEL_8_BREAKING":"true"}"#,
+        "BABEL_8_BREAKING: wrong shape",
+    ),
     (r#"{"os":"linux"}"#, "os: wrong shape"),
     (r#"{"os":["linux","Windows"]}"#, "os: wrong shape"),
     (r#"{"os":[null]}"#, "os: wrong shape"),
@@ -26,27 +29,51 @@ const WRONG_OPTIONS: [(&str, &str); 33] = [
         r#"{"allowReturnOutsideFunction":null}"#,
         "allowReturnOutsideFunction: wrong shape",
     ),
-    (r#"{"allowAwaitOutsideFunction":0}"#, "allowAwaitOutsideFunction: wrong shape"),
-    (r#"{"allowUndeclaredExports":"true"}"#, "allowUndeclaredExports: wrong shape"),
+    (
+        r#"{"allowAwaitOutsideFunction":0}"#,
+        "allowAwaitOutsideFunction: wrong shape",
+    ),
+    (
+        r#"{"allowUndeclaredExports":"true"}"#,
+        "allowUndeclaredExports: wrong shape",
+    ),
     (
         r#"{"allowNewTargetOutsideFunction":{}}"#,
         "allowNewTargetOutsideFunction: wrong shape",
     ),
-    (r#"{"allowSuperOutsideMethod":[]}"#, "allowSuperOutsideMethod: wrong shape"),
-    (r#"{"externalHelpers":null}"#, "externalHelpers: wrong shape"),
+    (
+        r#"{"allowSuperOutsideMethod":[]}"#,
+        "allowSuperOutsideMethod: wrong shape",
+    ),
+    (
+        r#"{"externalHelpers":null}"#,
+        "externalHelpers: wrong shape",
+    ),
     (r#"{"plugins":null}"#, "plugins: wrong shape"),
     (r#"{"plugins":{}}"#, "plugins: wrong shape"),
     (r#"{"plugins":[[]]}"#, "plugins: wrong shape"),
     (r#"{"plugins":["jsx",1]}"#, "plugins: wrong shape"),
     (r#"{"plugins":[["jsx",{},1]]}"#, "plugins: wrong shape"),
-    (r#"{"plugins":[["jsx",{},"a","b"]]}"#, "plugins: wrong shape"),
-    (r#"{"plugins":[["typescript",1],1]}"#, "plugins: wrong shape"),
-    (r#"{"plugins":[["typescript",{"dts":1}]]}"#, "typescript: wrong value"),
+    (
+        r#"{"plugins":[["jsx",{},"a","b"]]}"#,
+        "plugins: wrong shape",
+    ),
+    (
+        r#"{"plugins":[["typescript",1],1]}"#,
+        "plugins: wrong shape",
+    ),
+    (
+        r#"{"plugins":[["typescript",{"dts":1}]]}"#,
+        "typescript: wrong value",
+    ),
     (
         r#"{"plugins":[["syntax-typescript",{"disallowAmbiguousJSXLike":null}]]}"#,
         "syntax-typescript: wrong value",
     ),
-    (r#"{"plugins":[["syntax-decorators",[]]]}"#, "syntax-decorators: wrong value"),
+    (
+        r#"{"plugins":[["syntax-decorators",[]]]}"#,
+        "syntax-decorators: wrong value",
+    ),
     (
         r#"{"plugins":[["proposal-decorators",{"version":2023}]]}"#,
         "proposal-decorators: wrong value",
@@ -58,7 +85,10 @@ const WRONG_OPTIONS: [(&str, &str); 33] = [
     (r#"{"presets":"env"}"#, "presets: wrong shape"),
     (r#"{"presets":[["env",{},{}]]}"#, "presets: wrong shape"),
     (r#"{"cwd":1,"throws":1,"sourceType":1}"#, "cwd: wrong shape"),
-    (r#"{"presets":1,"plugins":1,"externalHelpers":1}"#, "externalHelpers: wrong shape"),
+    (
+        r#"{"presets":1,"plugins":1,"externalHelpers":1}"#,
+        "externalHelpers: wrong shape",
+    ),
     (
         r#"{"presets":1,"plugins":[["typescript",null]]}"#,
         "typescript: wrong value",
@@ -117,7 +147,12 @@ fn members_and_defaults(rt: HostRuntime) -> Result<(), Fail> {
 #[test]
 fn entries_of_each_form(rt: HostRuntime) -> Result<(), Fail> {
     let alloc = rt.alloc();
-    for entry in [r#""jsx""#, r#"["jsx"]"#, r#"["jsx",1]"#, r#"["syntax-jsx",{},"name"]"#] {
+    for entry in [
+        r#""jsx""#,
+        r#"["jsx"]"#,
+        r#"["jsx",1]"#,
+        r#"["syntax-jsx",{},"name"]"#,
+    ] {
         let text = format!(in alloc; r#"["other",{entry},["proposal-x",{{}}]]"#)?;
         let plugins = BabelPlugins::from_entries(alloc, &value(alloc, text.as_str())?)?;
         assert!(rt; plugins.syntax_jsx && !plugins.react_jsx, "{entry}");
@@ -133,7 +168,8 @@ fn entries_of_each_form(rt: HostRuntime) -> Result<(), Fail> {
 #[test]
 fn plugins_that_are_read(rt: HostRuntime) -> Result<(), Fail> {
     let alloc = rt.alloc();
-    let text = r#"[["typescript",{"dts":true}],["syntax-typescript",{"disallowAmbiguousJSXLike":true}],
+    let text =
+        r#"[["typescript",{"dts":true}],["syntax-typescript",{"disallowAmbiguousJSXLike":true}],
         ["syntax-decorators",{"version":"2023-05","x":1}],"proposal-decorators","transform-react-jsx",
         "transform-modules-commonjs"]"#;
     let plugins = BabelPlugins::from_entries(alloc, &value(alloc, text)?)?;
@@ -164,7 +200,10 @@ const ENV_VALUES: [(&str, bool); 38] = [
     (r#"["env",{"shippedProposals":{}}]"#, false),
     (r#"["env",{"configPath":1}]"#, false),
     (r#"["env",{"configPath":null}]"#, true),
-    (r#"["env",{"include":1,"exclude":null,"useBuiltIns":"usage","corejs":3.1}]"#, true),
+    (
+        r#"["env",{"include":1,"exclude":null,"useBuiltIns":"usage","corejs":3.1}]"#,
+        true,
+    ),
     (r#"["env",{"modules":"auto"}]"#, true),
     (r#"["env",{"modules":"commonjs"}]"#, true),
     (r#"["env",{"modules":"amd"}]"#, false),
@@ -186,7 +225,10 @@ const ENV_VALUES: [(&str, bool); 38] = [
     (r#"["env",{"targets":{"chrome":4294967296}}]"#, false),
     (r#"["env",{"targets":{"chrome":"80 "}}]"#, false),
     (r#"["env",{"targets":{"chrome":true}}]"#, false),
-    (r#"["env",{"targets":{"chrome":4294967295,"ie":"9.0"}}]"#, true),
+    (
+        r#"["env",{"targets":{"chrome":4294967295,"ie":"9.0"}}]"#,
+        true,
+    ),
 ];
 
 #[test]
@@ -225,8 +267,10 @@ fn values_of_env(rt: HostRuntime) -> Result<(), Fail> {
         r#"["chrome80"," safari10"]"#,
         r#"{"chrome":80,"safari":"10.1.2"}"#,
     ] {
-        let text = format!(in alloc; r#"[["env",{{"targets":{targets},"bugfixes":false,"loose":true,
-            "modules":"cjs","configPath":"/a"}}]]"#)?;
+        let text = format!(in alloc;
+            r#"[["env",{{"targets":{targets},"bugfixes":false,"loose":true,
+            "modules":"cjs","configPath":"/a"}}]]"#
+        )?;
         let presets = BabelPresets::from_entries(alloc, &value(alloc, text.as_str())?)?;
         let env = presets.env.ok_or(targets)?;
         assert_eq!(rt; major(&env.targets, true), Some(80));
@@ -246,7 +290,9 @@ fn values_of_env(rt: HostRuntime) -> Result<(), Fail> {
 }
 
 const TASK: &str = r#"{"cwd":"t","sourceType":"module","externalHelpers":false}"#;
+
 const SUITE: &str = r#"{"cwd":"s","throws":"S","presets":["react"],"os":[]}"#;
+
 const CATEGORY: &str = r#"{"cwd":"c","sourceType":"script","throws":"C",
     "plugins":["transform-sticky-regex"],"presets":["typescript"]}"#;
 
@@ -260,10 +306,25 @@ const LEVELS: [(&str, &str, &str, &str); 13] = [
     ("", SUITE, CATEGORY, "s script S react external "),
     (TASK, SUITE, CATEGORY, "t module S react "),
     ("{}", "{}", CATEGORY, "- script C external "),
-    (r#"{"plugins":[]}"#, "", CATEGORY, "- script C typescript external "),
-    (CATEGORY, SUITE, "", "c script C sticky typescript external "),
+    (
+        r#"{"plugins":[]}"#,
+        "",
+        CATEGORY,
+        "- script C typescript external ",
+    ),
+    (
+        CATEGORY,
+        SUITE,
+        "",
+        "c script C sticky typescript external ",
+    ),
     (SUITE, CATEGORY, "", "s script S sticky react external "),
-    (r#"{"sourceType":null,"throws":""}"#, SUITE, "", "- -  react external "),
+    (
+        r#"{"sourceType":null,"throws":""}"#,
+        SUITE,
+        "",
+        "- -  react external ",
+    ),
 ];
 
 fn given(alloc: Global, text: &str) -> Result<Option<Value>, Fail> {
@@ -341,7 +402,10 @@ fn a_refusal_shows_its_errors(rt: HostRuntime) -> Result<(), Fail> {
     let word = Ident::new(alloc, "foo1")?;
     let fault = OptionsFault::of_targets(alloc, &TargetFault::NoMatch { word })?;
     let text = format!(in alloc; "{fault}")?;
-    assert_eq!(rt; text.as_str(), "the options are refused; no matching target: foo1");
+    assert_eq!(rt;
+        text.as_str(),
+        "the options are refused; no matching target: foo1"
+    );
     let error = only_error(alloc, fault)?;
     assert_eq!(rt; error.as_str(), "no matching target: foo1");
     Ok(())

@@ -1,6 +1,6 @@
 -- The words among the texts of a node: operators, kinds and flags (ECMAScript, sections 12.8, 13 and 15).
-use Rattle.std.specs.Prelude.{ℕ, [], ◌∷◌, ◌++◌, Bool, true, false, codes, nat_eq, bit_and}
-use Rattle.js_term.specs.Term.{Text, is_text, Kind, Term, node, more, flag}
+use Rattle.std.specs.Prelude.{ℕ, [], ◌∷◌, ◌++◌, Bool, true, false, codes, nat_eq, bit_and, ◌&&◌}
+use Rattle.js_term.specs.Term.{Text, is_text, Kind, Term, node, more, one, flag}
 use Rattle.js_chars.specs.declared.flags.RegExpFlags.{RegExpFlags}
 use Rattle.js_tree.specs.declared.operator.AssignmentOperator.{AssignmentOperator}
 use Rattle.js_tree.specs.declared.operator.AssignmentOperator.TheVariants as assignment
