@@ -13,8 +13,8 @@ ghost use Rattle.prepare_program.specs.Prepared.{IsPrepared, IsUnreadable};
 use js_ident::Ident;
 use js_print::print_program;
 use js_read::{ReadFault, read_module};
-use small_tree::Program;
 use prepare_core::{PrepareFault, Prepared, prepare_module};
+use small_tree::Program;
 use std::alloc::{AllocError, Global};
 use thiserror::Error;
 
