@@ -191,8 +191,7 @@ has_arguments = at_each_node arguments_inside allows_arguments false
 -- Private names are declared by an enclosing class (15.7.1, 16.2.1.1). The context has the names that each class round
 -- a place declares: those of the keys of its elements.
 abbrev pub private_name : Term → List Text
-private_name (node Kind.PrivateIdentifier texts ts) = text_at 0 texts ∷ []
-private_name t = []
+private_name t = cond (is_node Kind.PrivateIdentifier t) (text_of t ∷ []) []
 
 abbrev pub private_names : Terms → List Text
 private_names none = []

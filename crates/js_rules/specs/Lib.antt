@@ -1,0 +1,5 @@
+pub mod KindOf
+pub mod Seen
+pub mod Contexts
+pub mod SortsSeen
+pub mod OuterSeen

@@ -1,0 +1,50 @@
+-- The nodes round a place, as terms, and what they declare.
+use denote.Ref.{Bor}
+use Rattle.std.specs.Prelude.{List, [], ◌∷◌, Option, None, Some, Bool, true, cond, ◌||◌}
+use Rattle.js_term.specs.Term.{Text, Kind, Term, Terms}
+use Rattle.js_term.specs.Kinds.{is_kind}
+use Rattle.js_term.specs.Scope.{kid}
+use Rattle.js_syntax.specs.Parts.{parts_of, text_of}
+use Rattle.js_syntax.specs.Everywhere.{everywhere_kids, at_each_node}
+use Rattle.js_syntax.specs.ModuleTree.{Jumps, declared_by, second_is_loop, classes_inside, allows_private}
+use Rattle.js_rules.specs.declared.outer.Outer.{Outer, Outer', Held-Outer-outer, None', Some'}
+
+-- the names that classes declare
+abbrev pub declared_names : List Term → List (List Text)
+declared_names [] = []
+declared_names (t ∷ ts) = declared_by (parts_of t) ∷ declared_names ts
+
+-- the labels of labelled statements, and those of loops among them
+abbrev pub label_names : List Term → List Text
+label_names [] = []
+label_names (t ∷ ts) = text_of (kid 0 (parts_of t)) ∷ label_names ts
+
+abbrev pub loop_names : List Term → List Text
+loop_names [] = []
+loop_names (t ∷ ts) = cond (second_is_loop (parts_of t)) (text_of (kid 0 (parts_of t)) ∷ loop_names ts) (loop_names ts)
+
+module _ {V : Type 0} (term : V → Term) where
+  abbrev mutual
+    pub outer_terms : Outer V → List Term
+    outer_terms (Outer' view outer) = term view ∷ held_terms outer
+
+    pub held_terms : Held-Outer-outer V → List Term
+    held_terms None' = []
+    held_terms (Some' p outer) = outer_terms outer
+
+  abbrev pub terms_of : Option (Bor (Outer V)) → List Term
+  terms_of None = []
+  terms_of (Some r) = outer_terms r.now
+
+  abbrev pub jumps_of : Option (Bor (Outer V)) → Bool → Bool → Jumps
+  jumps_of labels breaks continues = record { labels = label_names (terms_of labels); loops = loop_names (terms_of labels); breaks = breaks; continues = continues }
+
+-- the rule on private names, over the parts of a node, and over a tree
+abbrev pub parts_have_private_names : List (List Text) → Terms → Bool
+parts_have_private_names xss ts = everywhere_kids classes_inside (λ c. c) allows_private (λ c us. true) (λ c. true) (λ n. xss) 0 ts
+
+abbrev pub has_private_names_in : List (List Text) → Term → Bool
+has_private_names_in = at_each_node classes_inside allows_private
+
+abbrev pub is_class : Kind → Bool
+is_class k = is_kind k Kind.ClassDeclaration || is_kind k Kind.ClassExpression
