@@ -1,7 +1,8 @@
 -- What the types of the lexer mean.
-use Rattle.std.specs.Prelude.{ℕ, Option, None, Some, Bool}
+use Rattle.std.specs.Prelude.{◌≡◌, ℕ, Option, None, Some, Bool}
+use Rattle.js_term.specs.Term.{Text}
 use Rattle.js_term.specs.Lexeme as spec
-use Rattle.js_lex.specs.Next.{Cut}
+use Rattle.js_lex.specs.Next.{Cut, next}
 use Rattle.js_lex.specs.declared.bytes.Class.{Class}
 use Rattle.js_lex.specs.declared.bytes.Class.TheVariants as class
 use Rattle.js_lex.specs.declared.bytes.Quote.{Quote}
@@ -33,3 +34,7 @@ cut_of (Some t) = Some (lexeme_of t.lexeme, t.rest.now)
 abbrev pub peeked_of : Option Lexeme → Option spec.Lexeme
 peeked_of None = None
 peeked_of (Some l) = Some (lexeme_of l)
+
+-- what a cursor holds beside the text that is left: that text from its next token on, and that token
+abbrev pub IsAhead : Text → Text → Option Token → Type 0
+IsAhead rest ahead token = (ahead ≡ spec.front rest) × (cut_of token ≡ next rest)

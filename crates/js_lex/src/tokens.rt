@@ -7,13 +7,17 @@ ghost use Rattle.js_lex.specs.Next as next;
 ghost use Rattle.js_lex.specs.Classes.{peeked_of};
 
 use crate::bytes::{Class, is_blank, is_line_end, split_run};
-use crate::lexeme::{Lexeme, next_token};
+use crate::lexeme::{Lexeme, Token, next_token};
 use std::marker::Model;
 
 /// What is left of a text of at most 4294967295 bytes, token by token.
 #[derive(Drop)]
 pub struct Tokens<'a> {
     rest: &'a str,
+    /// What is left from the next token on, without the gap in front of it.
+    ahead: &'a str,
+    /// The next token, if one is there: it is looked for once, however often it is asked for.
+    token: Option<Token<'a>>,
     /// How long the whole text is.
     whole: u32,
 }
@@ -21,6 +25,7 @@ pub struct Tokens<'a> {
 impl<'a> Model for Tokens<'a> {
     ghost use Rattle.std.specs.Prelude.{ℕ, List, ◌≤◌, length};
     ghost use Rattle.std.specs.Coded.{coded_list, coded_ℕ};
+    ghost use Rattle.js_lex.specs.Classes.{IsAhead};
 
     ghost Value = { List ℕ };
 
@@ -28,7 +33,7 @@ impl<'a> Model for Tokens<'a> {
 
     ghost view = { λ t. t.rest.now };
 
-    ghost invariant = { λ t. length t.rest.now ≤ t.whole };
+    ghost invariant = { λ t. (length t.rest.now ≤ t.whole) × IsAhead t.rest.now t.ahead.now t.token };
 }
 
 /// The text behind the gap at its front.
@@ -55,15 +60,27 @@ fn same_line(mut bytes: &[u8]) -> bool
     true
 }
 
+/// The cursor over a text of which this is left.
+#[tactic(auto, unfolding(crate::specs::Next::next))]
+fn cursor<'a>(rest: &'a str, whole: u32) -> Tokens<'a>
+    requires { length rest.now ≤ whole }
+    ensures { result ≡ rest.now }
+{
+    let ahead = front(rest);
+    Tokens {
+        rest,
+        ahead,
+        token: next_token(ahead),
+        whole,
+    }
+}
+
 impl<'a> Tokens<'a> {
     pub fn new(text: &'a str) -> Tokens<'a>
         requires { length text.now ≤ 4294967295 }
         ensures { result ≡ text.now }
     {
-        Tokens {
-            rest: text,
-            whole: text.len() as u32,
-        }
+        cursor(text, text.len() as u32)
     }
 
     /// How much is left, with the gap at its front.
@@ -77,7 +94,7 @@ impl<'a> Tokens<'a> {
     pub fn ahead(&self) -> usize
         ensures { result ≤ length self.now }
     {
-        front(self.rest).len()
+        self.ahead.len()
     }
 
     /// Where the next token begins, in bytes.
@@ -90,23 +107,23 @@ impl<'a> Tokens<'a> {
         self.whole - self.rest.len() as u32
     }
 
-    #[tactic(auto, unfolding(crate::specs::Next::next, crate::specs::Next::lexeme))]
+    #[tactic(auto, unfolding(crate::specs::Next::lexeme))]
     pub fn peek(&self) -> Option<Lexeme<'a>>
         ensures { peeked_of result ≡ next.lexeme self.now }
     {
-        match next_token(front(self.rest)) {
+        match self.token {
             None => None,
             Some(token) => Some(token.lexeme),
         }
     }
 
     /// Passes the token at the front, if one is there.
-    #[tactic(auto, unfolding(crate::specs::Next::next, crate::specs::Next::after))]
+    #[tactic(auto, unfolding(crate::specs::Next::after))]
     pub fn advance(&mut self)
         ensures { self.new ≡ next.after self.old }
     {
-        if let Some(token) = next_token(front(self.rest)) {
-            self.rest = token.rest;
+        if let Some(token) = self.token {
+            *self = cursor(token.rest, self.whole);
         }
     }
 
@@ -136,7 +153,7 @@ impl<'a> Tokens<'a> {
     pub fn at_end(&self) -> bool
         ensures { result ≡ list_all spec.is_blank self.now }
     {
-        front(self.rest).is_empty()
+        self.ahead.is_empty()
     }
 
     /// Whether the next token stands on the same line.

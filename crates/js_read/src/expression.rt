@@ -77,7 +77,7 @@ impl<F: Fn(Global, &mut Tokens<'_>, u16) -> Result<Found, Halt>> Grammar<F> {
         ensures reads { Reads listing (spec.separated (spec.read self.now.depth) (length tokens.old) [] tokens.old) result tokens.new }
         ensures flat { IfOk result (λ l. l.deepest ≤ self.now.depth) }
     {
-        let mut items = Items::new(self.alloc);
+        let mut items = Items::from_vec(Vec::with_capacity(self.alloc, 2)?);
         let mut deepest = 0;
         for _turn in 0..tokens.left() {
             let found = self.part(tokens)?;

@@ -74,7 +74,7 @@ fn specifier(alloc: Global, tokens: &mut Tokens<'_>) -> Result<ImportSpecifier, 
 fn listed(alloc: Global, tokens: &mut Tokens<'_>) -> Result<Items<ImportSpecifier>, Halt>
     ensures { Reads (λ found. map specifier_term found) (spec.separated spec.specifier (length tokens.old) [] tokens.old) result tokens.new }
 {
-    let mut found = Items::new(alloc);
+    let mut found = Items::from_vec(Vec::with_capacity(alloc, 2)?);
     for _turn in 0..tokens.left() {
         found.push(specifier(alloc, tokens)?)?;
         if !tokens.sees(b',') {

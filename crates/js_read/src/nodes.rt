@@ -25,7 +25,7 @@ pub(crate) fn constant(
     ensures { IfOk result (λ d. declaration_term d ≡ node.const_of id.name (expression_term init)) }
 {
     let init = Boxed::new(alloc, init)?;
-    let mut declarations = Items::new(alloc);
+    let mut declarations = Items::from_vec(Vec::with_capacity(alloc, 1)?);
     declarations.push(VariableDeclarator {
         span: inner,
         id: BindingPattern::BindingIdentifier(id),

@@ -20,7 +20,7 @@ use std::alloc::Global;
 fn names(alloc: Global, tokens: &mut Tokens<'_>) -> Result<Items<FormalParameter>, Halt>
     ensures { Reads (λ found. map parameter_name found) (spec.separated spec.binding (length tokens.old) [] tokens.old) result tokens.new }
 {
-    let mut found = Items::new(alloc);
+    let mut found = Items::from_vec(Vec::with_capacity(alloc, 2)?);
     for _turn in 0..tokens.left() {
         let id = binding(alloc, tokens)?;
         found.push(FormalParameter {
@@ -83,7 +83,7 @@ impl<F: Fn(Global, &mut Tokens<'_>, u16) -> Result<Statement, Halt>> Bodies<F> {
         requires { Holds self.now.depth (F.pre self.now.part) (F.post self.now.part) }
         ensures { Reads (λ found. map statement_term found) (spec.statements self.now.depth (spec.statement self.now.depth) (length tokens.old) [] tokens.old) result tokens.new }
     {
-        let mut found = Items::new(self.alloc);
+        let mut found = Items::from_vec(Vec::with_capacity(self.alloc, 1)?);
         for _turn in 0..tokens.left() {
             if tokens.sees(b'}') {
                 return Ok(found);

@@ -1,27 +1,17 @@
 -- The nodes round a place, as terms, and what they declare.
 use denote.Ref.{Bor}
-use Rattle.std.specs.Prelude.{List, [], ◌∷◌, Option, None, Some, Bool, true, cond, ◌||◌}
+use Rattle.std.specs.Prelude.{List, [], ◌∷◌, Option, None, Some, Bool, true, ◌||◌}
 use Rattle.js_term.specs.Term.{Text, Kind, Term, Terms}
 use Rattle.js_term.specs.Kinds.{is_kind}
-use Rattle.js_term.specs.Scope.{kid}
-use Rattle.js_syntax.specs.Parts.{parts_of, text_of}
+use Rattle.js_syntax.specs.Parts.{parts_of}
 use Rattle.js_syntax.specs.Everywhere.{everywhere_kids, at_each_node}
-use Rattle.js_syntax.specs.ModuleTree.{Jumps, declared_by, second_is_loop, classes_inside, allows_private}
+use Rattle.js_syntax.specs.ModuleTree.{declared_by, classes_inside, allows_private}
 use Rattle.js_rules.specs.declared.outer.Outer.{Outer, Outer', Held-Outer-outer, None', Some'}
 
 -- the names that classes declare
 abbrev pub declared_names : List Term → List (List Text)
 declared_names [] = []
 declared_names (t ∷ ts) = declared_by (parts_of t) ∷ declared_names ts
-
--- the labels of labelled statements, and those of loops among them
-abbrev pub label_names : List Term → List Text
-label_names [] = []
-label_names (t ∷ ts) = text_of (kid 0 (parts_of t)) ∷ label_names ts
-
-abbrev pub loop_names : List Term → List Text
-loop_names [] = []
-loop_names (t ∷ ts) = cond (second_is_loop (parts_of t)) (text_of (kid 0 (parts_of t)) ∷ loop_names ts) (loop_names ts)
 
 module _ {V : Type 0} (term : V → Term) where
   abbrev mutual
@@ -35,9 +25,6 @@ module _ {V : Type 0} (term : V → Term) where
   abbrev pub terms_of : Option (Bor (Outer V)) → List Term
   terms_of None = []
   terms_of (Some r) = outer_terms r.now
-
-  abbrev pub jumps_of : Option (Bor (Outer V)) → Bool → Bool → Jumps
-  jumps_of labels breaks continues = record { labels = label_names (terms_of labels); loops = loop_names (terms_of labels); breaks = breaks; continues = continues }
 
 -- the rule on private names, over the parts of a node, and over a tree
 abbrev pub parts_have_private_names : List (List Text) → Terms → Bool

@@ -22,6 +22,7 @@ mod view;
 mod walk;
 
 pub use home::{Home, Super, SuperRule};
+pub use initializers::{Initializers, PartsRule};
 pub use kind::Kind;
 pub use leave::{Leave, LeaveRule};
 pub use level::{Level, LevelRule};

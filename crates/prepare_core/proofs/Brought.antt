@@ -12,7 +12,7 @@ use Rattle.small_tree.specs.declared.module.ImportSpecifier.{ImportSpecifier}
 use Rattle.small_tree.specs.declared.statement.Statement.{Statement}
 use Rattle.module_model.specs.Meaning.{asked, asks, requests}
 use Rattle.prepare_core.specs.Names.{HasImports, brought_in, is_import}
-use Rattle.prepare_core.specs.declared.scopes.Import.{Import}
+use Rattle.prepare_core.specs.declared.imported.Import.{Import}
 use Rattle.prepare_core.proofs.Look.{entry_for, entry_lookup, differ}
 
 abbrev pub or_else : {A : Type 0} → Option A → Option A → Option A
@@ -55,9 +55,9 @@ brought_once es fs x i h e = record { same = λ q. entry_lookup fs q ∙ ap (opt
         let s : x ≡ q = (bytes_decides x q).0 p in
         rw (entry_lookup es q, ← s) (absent (lookup (is_text x) es) h (Some (entry_for i)))
 
-pub brought_new : (es fs : List (Text × Import)) (x k y : Text) (j : ℕ) (name : Text) → is_some (lookup (is_text x) es) ≡ false → y ≡ x → name ≡ k → ((q : Text) → lookup (is_text q) fs ≡ cond (is_text y q) (Some (record { request = j; name = name })) (lookup (is_text q) es)) → HasImports (brought_in es ++ (x, imported j (Some k)) ∷ []) fs
-brought_new es fs x k y j name h p q e =
-    rw (← q) (brought_once es fs x (record { request = j; name = name }) h (λ t. e t ∙ ap (λ z. cond (is_text z t) (Some (record { request = j; name = name })) (lookup (is_text t) es)) p))
+pub brought_new : (es fs : List (Text × Import)) (x k y : Text) (i : Import) → is_some (lookup (is_text x) es) ≡ false → y ≡ x → i.name ≡ k → ((q : Text) → lookup (is_text q) fs ≡ cond (is_text y q) (Some i) (lookup (is_text q) es)) → HasImports (brought_in es ++ (x, imported i.request (Some k)) ∷ []) fs
+brought_new es fs x k y i h p q e =
+    rw (← q) (brought_once es fs x i h (λ t. e t ∙ ap (λ z. cond (is_text z t) (Some i) (lookup (is_text t) es)) p))
 
 pub has_none : HasImports [] []
 has_none = record { same = λ q. refl }

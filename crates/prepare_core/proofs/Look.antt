@@ -14,7 +14,7 @@ use Rattle.js_term.specs.Node.{identifier_of}
 use Rattle.js_term.specs.Scope.{Env, Entry, here, imported, plainly, entry_of, resolve, import_of}
 use Rattle.module_model.specs.Run.{written}
 use Rattle.prepare_core.specs.Names.{hidden, brought_in, within, names_env, IsScopeOf}
-use Rattle.prepare_core.specs.declared.scopes.Import.{Import}
+use Rattle.prepare_core.specs.declared.imported.Import.{Import}
 
 pub differ : {A : Type 0} → true ≡ false → A
 differ e = absurd (true≢false e)

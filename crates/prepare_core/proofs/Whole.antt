@@ -11,7 +11,7 @@ use Rattle.module_model.specs.Run.{run, run_items, spelled, written, getters, wr
 use Rattle.module_model.specs.Shape.{getter}
 use Rattle.prepare_core.specs.Carried.{are_direct, carried_each}
 use Rattle.prepare_core.specs.Names.{HasImports, brought_in}
-use Rattle.prepare_core.specs.declared.scopes.Import.{Import}
+use Rattle.prepare_core.specs.declared.imported.Import.{Import}
 use Rattle.prepare_core.proofs.Asked.{append_terms}
 use Rattle.prepare_core.proofs.Brought.{or_else, entry_append}
 use Rattle.prepare_core.proofs.Carry.{Alike, kids_alike}

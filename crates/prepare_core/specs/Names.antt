@@ -10,7 +10,7 @@ use Rattle.small_tree.specs.TermOf.{binding_term, parameters_term, body_term, st
 use Rattle.small_tree.specs.declared.function.Function.{Function}
 use Rattle.small_tree.specs.declared.function.FunctionKind.{FunctionKind}
 use Rattle.small_tree.specs.declared.function.FunctionKind.TheVariants as function_kind
-use Rattle.prepare_core.specs.declared.scopes.Import.{Import}
+use Rattle.prepare_core.specs.declared.imported.Import.{Import}
 
 -- some function scope has the name
 abbrev pub hidden : {S : Type 0} → List (HashSet Text S) → Text → Bool

@@ -2,6 +2,7 @@
 ghost use Rattle.small_tree.specs.TermOf.{import_term};
 ghost use Rattle.std.specs.Prelude.{◌≡◌, IfOk};
 
+use crate::room::room;
 use small_tree::{
     BindingIdentifier, Directive, FormalParameter, ImportDeclaration, ImportSpecifier, Items,
 };
@@ -13,7 +14,7 @@ pub(crate) fn copy_directives(
 ) -> Result<Items<Directive>, AllocError>
     ensures { IfOk result (λ it. it ≡ items.now) }
 {
-    let mut out = Items::new(alloc);
+    let mut out = room(alloc, items.len())?;
     for one in items {
         out.push(one.clone()?)?;
     }
@@ -26,7 +27,7 @@ pub(crate) fn copy_parameters(
 ) -> Result<Items<FormalParameter>, AllocError>
     ensures { IfOk result (λ it. it ≡ items.now) }
 {
-    let mut out = Items::new(alloc);
+    let mut out = room(alloc, items.len())?;
     for one in items {
         out.push(one.clone()?)?;
     }

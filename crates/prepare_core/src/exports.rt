@@ -7,9 +7,10 @@ ghost use Rattle.prepare_core.specs.Names.{root_env};
 ghost use Rattle.std.specs.Prelude.{◌≡◌, ◌++◌, ◌∷◌, [], map, IfOk, OnOk};
 
 use crate::forms::getter;
+use crate::imported::Import;
 use crate::made::MADE;
 use crate::names::push_declaration;
-use crate::scopes::Import;
+use crate::runner_names::RunnerNames;
 use crate::statements::as_export;
 use crate::walk::rewrite_reference;
 use small_tree::{Ident, IdentifierReference, Items, Statement};
@@ -37,6 +38,7 @@ fn exported(alloc: Global, body: &[Statement]) -> Result<Items<Ident>, AllocErro
 
 fn push_getter(
     alloc: Global,
+    names: &RunnerNames,
     imports: &HashMap<Ident, Import>,
     out: &mut Items<Statement>,
     name: &Ident,
@@ -49,21 +51,22 @@ fn push_getter(
         reference_id: None,
     };
     let target = rewrite_reference(alloc, imports, &[], &reference)?;
-    out.push(getter(alloc, name.clone()?, target)?)
+    out.push(getter(alloc, names, name.clone()?, target)?)
 }
 
 /// Adds a getter for each name that the module exports.
 pub(crate) fn push_getters(
     alloc: Global,
+    names: &RunnerNames,
     imports: &HashMap<Ident, Import>,
     out: &mut Items<Statement>,
     body: &[Statement],
 ) -> Result<(), AllocError>
     ensures { OnOk result (all (map statement_term out.new) ≡ append (all (map statement_term out.old)) (getters (root_env imports.now) (all_handed_out (all (map statement_term body.now))))) }
 {
-    let names = exported(alloc, body)?;
-    for one in names.as_slice() {
-        push_getter(alloc, imports, out, one)?;
+    let exports = exported(alloc, body)?;
+    for one in exports.as_slice() {
+        push_getter(alloc, names, imports, out, one)?;
     }
     Ok(())
 }

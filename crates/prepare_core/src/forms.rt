@@ -9,6 +9,8 @@ use crate::made::{
     MADE, call, identifier_named, import_text, member, property, string, true_property,
 };
 use crate::rebuilt::{array, awaited, effect, object, returned};
+use crate::room::room;
+use crate::runner_names::RunnerNames;
 use small_tree::{
     BindingIdentifier, BindingPattern, Boxed, Expression, FormalParameters, Function, FunctionBody,
     FunctionKind, Ident, IdentifierName, Items, ObjectProperty, PropertyKind, Statement,
@@ -22,7 +24,7 @@ fn returning(alloc: Global, target: Expression) -> Result<Function, AllocError>
     ensures { IfOk result (λ it. function_term it ≡ method_of [] (one (return_of (expression_term target)))) }
 {
     let argument = Boxed::new(alloc, target)?;
-    let mut statements = Items::new(alloc);
+    let mut statements = room(alloc, 1)?;
     statements.push(returned(MADE, Some(argument)))?;
     Ok(Function {
         span: MADE,
@@ -44,10 +46,14 @@ fn returning(alloc: Global, target: Expression) -> Result<Function, AllocError>
 }
 
 #[tactic(auto, using(crate::proofs::Nodes::value_made))]
-fn get_method(alloc: Global, target: Expression) -> Result<ObjectProperty, AllocError>
+fn get_method(
+    alloc: Global,
+    names: &RunnerNames,
+    target: Expression,
+) -> Result<ObjectProperty, AllocError>
     ensures { IfOk result (λ it. property_term expression_term it ≡ method_property_of (codes "get") [] (one (return_of (expression_term target)))) }
 {
-    let name = Ident::new(alloc, "get")?;
+    let name = names.get.clone()?;
     let made = Boxed::new(alloc, returning(alloc, target)?)?;
     let value = Boxed::new(alloc, Expression::FunctionExpression(made))?;
     Ok(ObjectProperty {
@@ -61,70 +67,80 @@ fn get_method(alloc: Global, target: Expression) -> Result<ObjectProperty, Alloc
     })
 }
 
-fn described(alloc: Global, target: Expression) -> Result<Expression, AllocError>
+fn described(
+    alloc: Global,
+    names: &RunnerNames,
+    target: Expression,
+) -> Result<Expression, AllocError>
     ensures { IfOk result (λ it. expression_term it ≡ object_of (descriptor (expression_term target))) }
 {
-    let mut properties = Items::new(alloc);
-    properties.push(true_property(alloc, "enumerable")?)?;
-    properties.push(true_property(alloc, "configurable")?)?;
-    properties.push(get_method(alloc, target)?)?;
+    let mut properties = room(alloc, 3)?;
+    properties.push(true_property(alloc, &names.enumerable)?)?;
+    properties.push(true_property(alloc, &names.configurable)?)?;
+    properties.push(get_method(alloc, names, target)?)?;
     Ok(object(MADE, properties))
 }
 
-fn define_property(alloc: Global) -> Result<Expression, AllocError>
+fn define_property(alloc: Global, names: &RunnerNames) -> Result<Expression, AllocError>
     ensures { IfOk result (λ it. expression_term it ≡ member_of (identifier_of (codes "Object")) (codes "defineProperty")) }
 {
-    let global = identifier_named(alloc, "Object")?;
-    member(alloc, global, Ident::new(alloc, "defineProperty")?)
+    let global = identifier_named(&names.object)?;
+    member(alloc, global, names.define_property.clone()?)
 }
 
 /// The getter of the export `name`, which reads `target` when it is called.
 pub(crate) fn getter(
     alloc: Global,
+    names: &RunnerNames,
     name: Ident,
     target: Expression,
 ) -> Result<Statement, AllocError>
     ensures { IfOk result (λ it. statement_term it ≡ getter name (expression_term target)) }
 {
-    let mut arguments = Items::new(alloc);
-    arguments.push(identifier_named(alloc, "__vite_ssr_exports__")?)?;
+    let mut arguments = room(alloc, 3)?;
+    arguments.push(identifier_named(&names.exports)?)?;
     arguments.push(string(name))?;
-    arguments.push(described(alloc, target)?)?;
-    let expression = call(alloc, define_property(alloc)?, arguments)?;
+    arguments.push(described(alloc, names, target)?)?;
+    let expression = call(alloc, define_property(alloc, names)?, arguments)?;
     Ok(effect(MADE, Boxed::new(alloc, expression)?))
 }
 
 #[tactic(auto, using(crate::proofs::Nodes::strings_more))]
-fn names_array(alloc: Global, names: &[Ident]) -> Result<Expression, AllocError>
-    ensures { IfOk result (λ it. expression_term it ≡ array_of (strings names.now)) }
+fn names_array(alloc: Global, imported: &[Ident]) -> Result<Expression, AllocError>
+    ensures { IfOk result (λ it. expression_term it ≡ array_of (strings imported.now)) }
 {
-    let mut elements = Items::new(alloc);
-    for one in names {
+    let mut elements = room(alloc, imported.len())?;
+    for one in imported {
         elements.push(string(one.clone()?))?;
     }
     Ok(array(MADE, elements))
 }
 
-fn names_object(alloc: Global, names: &[Ident]) -> Result<Expression, AllocError>
-    ensures { IfOk result (λ it. expression_term it ≡ object_of (one (property_of (codes "importedNames") (array_of (strings names.now))))) }
+fn names_object(
+    alloc: Global,
+    names: &RunnerNames,
+    imported: &[Ident],
+) -> Result<Expression, AllocError>
+    ensures { IfOk result (λ it. expression_term it ≡ object_of (one (property_of (codes "importedNames") (array_of (strings imported.now))))) }
 {
-    let array = names_array(alloc, names)?;
-    let mut properties = Items::new(alloc);
-    properties.push(property(alloc, "importedNames", array)?)?;
+    let array = names_array(alloc, imported)?;
+    let mut properties = room(alloc, 1)?;
+    properties.push(property(alloc, &names.imported_names, array)?)?;
     Ok(object(MADE, properties))
 }
 
 fn request_arguments(
     alloc: Global,
+    names: &RunnerNames,
     source: Ident,
-    names: Option<Items<Ident>>,
+    imported: Option<Items<Ident>>,
 ) -> Result<Items<Expression>, AllocError>
-    ensures { IfOk result (λ it. all (map expression_term it) ≡ more (string_of source) (names_argument names)) }
+    ensures { IfOk result (λ it. all (map expression_term it) ≡ more (string_of source) (names_argument imported)) }
 {
-    let mut arguments = Items::new(alloc);
+    let mut arguments = room(alloc, 2)?;
     arguments.push(string(source))?;
-    if let Some(names) = names {
-        arguments.push(names_object(alloc, names.as_slice())?)?;
+    if let Some(imported) = imported {
+        arguments.push(names_object(alloc, names, imported.as_slice())?)?;
     }
     Ok(arguments)
 }
@@ -134,7 +150,7 @@ fn constant(alloc: Global, name: Ident, value: Expression) -> Result<Statement, 
     ensures { IfOk result (λ it. statement_term it ≡ const_of name (expression_term value)) }
 {
     let init = Boxed::new(alloc, value)?;
-    let mut declarations = Items::new(alloc);
+    let mut declarations = room(alloc, 1)?;
     declarations.push(VariableDeclarator {
         span: MADE,
         id: BindingPattern::BindingIdentifier(BindingIdentifier {
@@ -154,14 +170,19 @@ fn constant(alloc: Global, name: Ident, value: Expression) -> Result<Statement, 
 /// The request with this number, which names what is imported, where there are names.
 pub(crate) fn request(
     alloc: Global,
+    names: &RunnerNames,
     number: usize,
     source: Ident,
-    names: Option<Items<Ident>>,
+    imported: Option<Items<Ident>>,
 ) -> Result<Statement, AllocError>
-    ensures { IfOk result (λ it. statement_term it ≡ request number source names) }
+    ensures { IfOk result (λ it. statement_term it ≡ request number source imported) }
 {
-    let callee = identifier_named(alloc, "__vite_ssr_import__")?;
-    let asked = call(alloc, callee, request_arguments(alloc, source, names)?)?;
+    let callee = identifier_named(&names.import)?;
+    let asked = call(
+        alloc,
+        callee,
+        request_arguments(alloc, names, source, imported)?,
+    )?;
     let value = awaited(MADE, Boxed::new(alloc, asked)?);
     constant(alloc, import_text(alloc, number)?, value)
 }

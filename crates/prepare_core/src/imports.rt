@@ -3,10 +3,12 @@ ghost use Rattle.js_term.specs.Scope.{all_brought, bound_by, brought};
 ghost use Rattle.js_term.specs.Term.{all, text_of};
 ghost use Rattle.small_tree.specs.TermOf.{export_name_term, import_term, specifier_term, statement_term};
 ghost use Rattle.module_model.specs.Meaning.{asked};
+ghost use Rattle.module_model.specs.Shape.{import_name};
 ghost use Rattle.prepare_core.specs.Names.{HasImports, brought_in};
 ghost use Rattle.std.specs.Prelude.{◌≡◌, ◌++◌, ◌∷◌, ◌+◌, ◌<◌, ◌^◌, [], map, length, IfOk, OnOk};
 
-use crate::scopes::Import;
+use crate::imported::Import;
+use crate::made::import_text;
 use crate::statements::as_import;
 use small_tree::{Ident, ImportDeclaration, ImportSpecifier, ModuleExportName, Statement};
 use std::alloc::{AllocError, Global};
@@ -26,33 +28,46 @@ pub(crate) fn exported_name(name: &ModuleExportName) -> &Ident
 fn add_specifier(
     imports: &mut HashMap<Ident, Import>,
     request: usize,
+    object: &Ident,
     one: &ImportSpecifier,
 ) -> Result<(), AllocError>
+    requires { object.now ≡ import_name request }
     ensures { OnOk result (HasImports (brought_in imports.old.entries ++ bound_by request (all (specifier_term one.now ∷ []))) imports.new.entries) }
 {
     if imports.contains_key(&one.local.name) {
         return Ok(());
     }
     let name = exported_name(&one.imported).clone()?;
-    imports.insert(one.local.name.clone()?, Import { request, name })?;
+    let object = object.clone()?;
+    imports.insert(
+        one.local.name.clone()?,
+        Import {
+            request,
+            object,
+            name,
+        },
+    )?;
     Ok(())
 }
 
 fn add_specifiers(
     imports: &mut HashMap<Ident, Import>,
     request: usize,
+    object: &Ident,
     items: &[ImportSpecifier],
 ) -> Result<(), AllocError>
+    requires { object.now ≡ import_name request }
     ensures { OnOk result (HasImports (brought_in imports.old.entries ++ bound_by request (all (map specifier_term items.now))) imports.new.entries) }
 {
     for one in items {
-        add_specifier(imports, request, one)?;
+        add_specifier(imports, request, object, one)?;
     }
     Ok(())
 }
 
 #[tactic(auto, using(crate::proofs::Brought::has_itself))]
 fn add_import(
+    alloc: Global,
     imports: &mut HashMap<Ident, Import>,
     request: usize,
     n: &ImportDeclaration,
@@ -61,12 +76,16 @@ fn add_import(
 {
     match &n.specifiers {
         None => Ok(()),
-        Some(items) => add_specifiers(imports, request, items.as_slice()),
+        Some(items) => {
+            let object = import_text(alloc, request)?;
+            add_specifiers(imports, request, &object, items.as_slice())
+        }
     }
 }
 
 /// Adds what a statement brings in, and hands out the number of the next request.
 fn add_statement(
+    alloc: Global,
     imports: &mut HashMap<Ident, Import>,
     request: usize,
     s: &Statement,
@@ -78,7 +97,7 @@ fn add_statement(
     match as_import(s) {
         None => Ok(request),
         Some(n) => {
-            add_import(imports, request, n)?;
+            add_import(alloc, imports, request, n)?;
             Ok(request + 1)
         }
     }
@@ -94,7 +113,7 @@ pub(crate) fn imports_of(
     let mut imports = HashMap::new(alloc);
     let mut request = 0;
     for one in body {
-        request = add_statement(&mut imports, request, one)?;
+        request = add_statement(alloc, &mut imports, request, one)?;
     }
     Ok(imports)
 }

@@ -6,7 +6,7 @@ ghost use Rattle.prepare_core.specs.Carried.{carried_each};
 ghost use Rattle.prepare_core.specs.Names.{is_import, names_env, root_env};
 ghost use Rattle.std.specs.Prelude.{◌≡◌, [], false, map, OnOk};
 
-use crate::scopes::Import;
+use crate::imported::Import;
 use crate::statements::{as_export, as_import, declaration_statement};
 use crate::walk::{rewrite_declaration, rewrite_statement};
 use small_tree::{Ident, Items, Statement};

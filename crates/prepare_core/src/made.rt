@@ -5,8 +5,9 @@ ghost use Rattle.small_tree.specs.TermOf.{expression_term, property_term};
 ghost use Rattle.module_model.specs.Shape.{import_name, detached};
 ghost use Rattle.std.specs.Prelude.{◌≡◌, IfOk, map, true};
 
+use crate::imported::Import;
 use crate::rebuilt::sequence;
-use crate::scopes::Import;
+use crate::room::room;
 use small_tree::{
     BooleanLiteral, Boxed, CallExpression, Expression, Ident, IdentifierName, IdentifierReference,
     Items, NumericLiteral, ObjectProperty, PropertyKind, Span, StaticMemberExpression,
@@ -27,10 +28,10 @@ fn identifier(name: Ident) -> Expression
     })
 }
 
-pub(crate) fn identifier_named(alloc: Global, name: &str) -> Result<Expression, AllocError>
+pub(crate) fn identifier_named(name: &Ident) -> Result<Expression, AllocError>
     ensures { IfOk result (λ it. expression_term it ≡ identifier_of name.now) }
 {
-    Ok(identifier(Ident::new(alloc, name)?))
+    Ok(identifier(name.clone()?))
 }
 
 #[tactic(auto, using(crate::proofs::Nodes::string_made))]
@@ -74,12 +75,12 @@ pub(crate) fn call(
 
 pub(crate) fn property(
     alloc: Global,
-    key: &str,
+    key: &Ident,
     value: Expression,
 ) -> Result<ObjectProperty, AllocError>
     ensures { IfOk result (λ it. property_term expression_term it ≡ property_of key.now (expression_term value)) }
 {
-    let name = Ident::new(alloc, key)?;
+    let name = key.clone()?;
     Ok(ObjectProperty {
         span: MADE,
         kind: PropertyKind::Init,
@@ -92,7 +93,7 @@ pub(crate) fn property(
 }
 
 #[tactic(auto, using(crate::proofs::Nodes::true_made))]
-pub(crate) fn true_property(alloc: Global, key: &str) -> Result<ObjectProperty, AllocError>
+pub(crate) fn true_property(alloc: Global, key: &Ident) -> Result<ObjectProperty, AllocError>
     ensures { IfOk result (λ it. property_term expression_term it ≡ property_of key.now (boolean_of true)) }
 {
     let value = Expression::BooleanLiteral(BooleanLiteral {
@@ -108,7 +109,7 @@ pub(crate) fn detach(alloc: Global, value: Expression) -> Result<Expression, All
     ensures { IfOk result (λ it. expression_term it ≡ detached (expression_term value)) }
 {
     let raw = Ident::new(alloc, "0")?;
-    let mut expressions = Items::new(alloc);
+    let mut expressions = room(alloc, 2)?;
     expressions.push(Expression::NumericLiteral(NumericLiteral { span: MADE, raw }))?;
     expressions.push(value)?;
     Ok(sequence(MADE, expressions))
@@ -125,6 +126,6 @@ pub(crate) fn import_text(alloc: Global, number: usize) -> Result<Ident, AllocEr
 pub(crate) fn import_member(alloc: Global, import: &Import) -> Result<Expression, AllocError>
     ensures { IfOk result (λ it. expression_term it ≡ member_of (identifier_of (import_name import.now.request)) import.now.name) }
 {
-    let object = identifier(import_text(alloc, import.request)?);
+    let object = identifier_named(&import.object)?;
     member(alloc, object, import.name.clone()?)
 }

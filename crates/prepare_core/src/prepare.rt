@@ -13,6 +13,7 @@ use crate::fault::PrepareFault;
 use crate::imports::imports_of;
 use crate::kept::push_all_kept;
 use crate::requests::{deps_of, push_requests};
+use crate::runner_names::RunnerNames;
 use small_tree::{Ident, Items, Program, Statement};
 use std::alloc::{AllocError, Global};
 
@@ -29,10 +30,11 @@ fn prepared_body(alloc: Global, body: &[Statement]) -> Result<Items<Statement>, 
     requires { are_direct (all_kept (all (map statement_term body.now))) ≡ true }
     ensures { IfOk result (λ it. all (map statement_term it) ≡ run_items (all (map statement_term body.now))) }
 {
+    let names = RunnerNames::new(alloc)?;
     let imports = imports_of(alloc, body)?;
     let mut out = Items::new(alloc);
-    push_getters(alloc, &imports, &mut out, body)?;
-    push_requests(alloc, &mut out, body)?;
+    push_getters(alloc, &names, &imports, &mut out, body)?;
+    push_requests(alloc, &names, &mut out, body)?;
     push_all_kept(alloc, &imports, &mut out, body)?;
     Ok(out)
 }

@@ -11,6 +11,8 @@ ghost use Rattle.std.specs.Prelude.{◌≡◌, ◌++◌, ◌+◌, ◌<◌, ◌^�
 
 use crate::forms::request;
 use crate::imports::exported_name;
+use crate::room::room;
+use crate::runner_names::RunnerNames;
 use crate::statements::as_import;
 use small_tree::{Ident, ImportSpecifier, Items, Statement};
 use std::alloc::{AllocError, Global};
@@ -20,7 +22,7 @@ use std::collections::BTreeSet;
 fn names_of(alloc: Global, items: &[ImportSpecifier]) -> Result<Items<Ident>, AllocError>
     ensures { IfOk result (λ it. it ≡ imported_by (all (map specifier_term items.now))) }
 {
-    let mut out = Items::new(alloc);
+    let mut out = room(alloc, items.len())?;
     for one in items {
         out.push(exported_name(&one.imported).clone()?)?;
     }
@@ -42,6 +44,7 @@ fn names_asked(
 /// Adds the request that a statement makes, and hands out the number of the next one.
 fn push_request(
     alloc: Global,
+    names: &RunnerNames,
     out: &mut Items<Statement>,
     number: usize,
     s: &Statement,
@@ -53,9 +56,9 @@ fn push_request(
     match as_import(s) {
         None => Ok(number),
         Some(n) => {
-            let names = names_asked(alloc, &n.specifiers)?;
+            let imported = names_asked(alloc, &n.specifiers)?;
             let source = n.source.value.clone()?;
-            out.push(request(alloc, number, source, names)?)?;
+            out.push(request(alloc, names, number, source, imported)?)?;
             Ok(number + 1)
         }
     }
@@ -64,6 +67,7 @@ fn push_request(
 /// Adds the requests of a module, each with its number.
 pub(crate) fn push_requests(
     alloc: Global,
+    names: &RunnerNames,
     out: &mut Items<Statement>,
     body: &[Statement],
 ) -> Result<(), AllocError>
@@ -71,7 +75,7 @@ pub(crate) fn push_requests(
 {
     let mut number = 0;
     for one in body {
-        number = push_request(alloc, out, number, one)?;
+        number = push_request(alloc, names, out, number, one)?;
     }
     Ok(())
 }

@@ -5,15 +5,9 @@ ghost use Rattle.module_model.specs.Run.{written};
 ghost use Rattle.prepare_core.specs.Names.{hidden, names_env};
 ghost use Rattle.std.specs.Prelude.{◌≡◌, MatchOption, Some};
 
+use crate::imported::Import;
 use small_tree::Ident;
 use std::collections::{HashMap, HashSet};
-
-/// What an imported name stands for: a name that a request exports.
-#[derive(Debug, Drop)]
-pub(crate) struct Import {
-    pub(crate) request: usize,
-    pub(crate) name: Ident,
-}
 
 fn is_hidden(scopes: &[HashSet<Ident>], name: &Ident) -> bool
     ensures { result ≡ hidden scopes.now name.now }

@@ -8,13 +8,15 @@ ghost use Rattle.prepare_core.specs.Names.{names_env};
 ghost use Rattle.std.specs.Prelude.{◌≡◌, ◌++◌, ◌∷◌, [], false, map, IfOk, OnOk, MatchOption};
 
 use crate::copies::copy_import;
+use crate::imported::Import;
 use crate::made::{detach, import_member};
 use crate::names::function_scope;
 use crate::rebuilt::{
     array, awaited, effect, object, parenthesized, returned, sequence, with_callee,
     with_declarators, with_init, with_object, with_statements, with_value,
 };
-use crate::scopes::{Import, find_import};
+use crate::room::room;
+use crate::scopes::find_import;
 use small_tree::{
     Boxed, Declaration, ExportDeclaration, Expression, Function, Ident, IdentifierReference, Items,
     ObjectProperty, Statement, VariableDeclarator,
@@ -170,7 +172,7 @@ fn rewrite_each(
     ensures scopes { OnOk result (scopes.new ≡ scopes.old) }
     ensures terms { IfOk result (λ it. map expression_term it ≡ map (λ e. carried (names_env imports.now scopes.old) (expression_term e)) items.now) }
 {
-    let mut out = Items::new(alloc);
+    let mut out = room(alloc, items.len())?;
     for one in items {
         out.push(rewrite_expression(alloc, imports, scopes, one)?)?;
     }
@@ -188,7 +190,7 @@ fn rewrite_properties(
     ensures scopes { OnOk result (scopes.new ≡ scopes.old) }
     ensures terms { IfOk result (λ it. map (property_term expression_term) it ≡ map (λ p. carried (names_env imports.now scopes.old) (property_term expression_term p)) items.now) }
 {
-    let mut out = Items::new(alloc);
+    let mut out = room(alloc, items.len())?;
     for one in items {
         let value = rewrite_expression(alloc, imports, scopes, one.value.get())?;
         out.push(with_value(alloc, one, value)?)?;
@@ -208,7 +210,7 @@ fn rewrite_function(
     ensures term { IfOk result (λ it. function_term it ≡ carried (names_env imports.now scopes.old) (function_term n.now)) }
 {
     scopes.push(function_scope(alloc, n)?)?;
-    let mut out = Items::new(alloc);
+    let mut out = room(alloc, n.body.statements.len())?;
     for one in n.body.statements.as_slice() {
         out.push(rewrite_statement(alloc, imports, scopes, one)?)?;
     }
@@ -227,7 +229,7 @@ fn rewrite_declarators(
     ensures scopes { OnOk result (scopes.new ≡ scopes.old) }
     ensures terms { IfOk result (λ it. map declarator_term it ≡ map (λ d. carried (names_env imports.now scopes.old) (declarator_term d)) items.now) }
 {
-    let mut out = Items::new(alloc);
+    let mut out = room(alloc, items.len())?;
     for one in items {
         match &one.init {
             None => out.push(with_init(one, None)?)?,

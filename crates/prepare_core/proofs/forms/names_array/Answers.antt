@@ -5,5 +5,5 @@ use Rattle.prepare_core.proofs.forms.names_array.Goals as goal
 
 pub returns : goal.returns
 returns c =
-    let h : length c.args.names.now ≤ c.loop-one.one-index = omega arith in
-    c.array.ensures ∙ ap array_of (rw (take_all c.loop-one.one-index c.args.names.now h) at c.loop-one.invariant)
+    let h : length c.args.imported.now ≤ c.loop-one.one-index = omega arith in
+    c.array.ensures ∙ ap array_of (rw (take_all c.loop-one.one-index c.args.imported.now h) at c.loop-one.invariant)

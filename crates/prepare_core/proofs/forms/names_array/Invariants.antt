@@ -5,4 +5,4 @@ use Rattle.module_model.specs.Shape.{strings}
 use Rattle.prepare_core.proofs.forms.names_array.Given as goal
 
 abbrev pub invariant-loop-one : goal.invariant-loop-one
-invariant-loop-one l = all (map expression_term l.elements) ≡ strings (take l.one-index l.names)
+invariant-loop-one l = all (map expression_term l.elements) ≡ strings (take l.one-index l.imported)

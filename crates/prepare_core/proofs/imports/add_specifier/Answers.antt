@@ -8,5 +8,5 @@ returns-then-contains_key c =
 
 pub returns : goal.returns
 returns c =
-    brought_new c.args.imports.now.entries c.insert.new.self.entries c.args.one.now.local.name _ c.in_ok-clone.field-0 c.args.request c.in_ok-name.name
+    brought_new c.args.imports.now.entries c.insert.new.self.entries c.args.one.now.local.name _ c.in_ok-clone.field-0 _
     (sym c.contains_key.ensures ∙ c.if-contains_key.false) c.in_ok-clone.ensures.cases (c.in_ok-name.ensures.cases ∙ c.exported_name.ensures) c.in_ok-insert.ensures.updates.0

@@ -1,9 +1,10 @@
-use Rattle.std.proofs.Common.{◌≤◌, length, refl, arith}
-use Rattle.js_lex.proofs.Laws.{rest_within}
+use Rattle.std.proofs.Common.{ap, ◌∙◌, sym, arith}
+use Rattle.js_lex.specs.Classes.{cut_of}
+use Rattle.js_lex.proofs.Laws.{next_found, next_shorter}
 use Rattle.js_lex.proofs.tokens.Tokens.advance.Goals as goal
 
-pub invariant_of-self : goal.invariant_of-self
-invariant_of-self c =
-    let kept : length c.self.inside.rest.now ≤ c.self.inside.whole = c.self.invariant in
-    let shorter : length c.in-Some.token.rest.now ≤ length c.self.inside.rest.now = rest_within _ _ c.in-Some.token.rest.now c.front.result.now c.self.inside.rest.now refl c.in-Some.ensures c.front.ensures.within in
-    omega arith
+pub cursor-requires : goal.cursor-requires
+cursor-requires c =
+    let t = c.in-Some.token in
+    let shorter = next_shorter c.self.inside.rest.now _ t.rest.now (next_found c.self.inside.rest.now _ t.rest.now (sym c.self.invariant.1.1 ∙ ap cut_of c.in-Some.is)) in
+    omega (arith, c.self.invariant.0)

@@ -5,4 +5,4 @@ use Rattle.js_lex.proofs.Laws.{ends}
 use Rattle.js_lex.proofs.tokens.Tokens.at_end.Goals as goal
 
 pub returns : goal.returns
-returns c = c.is_empty.ensures ∙ ends c.self.inside.rest.now (length c.front.result.now) (ap length c.front.ensures.front) ∙ ap (list_all is_blank) c.self.view_is
+returns c = c.is_empty.ensures ∙ ends c.self.inside.rest.now (length c.self.inside.ahead.now) (ap length c.self.invariant.1.0) ∙ ap (list_all is_blank) c.self.view_is

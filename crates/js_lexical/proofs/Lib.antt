@@ -1,0 +1,4 @@
+mod Decoded
+mod Identifiers
+mod Parts
+mod Sound

@@ -1,0 +1,2 @@
+pub mod JumpRule
+pub mod Joined

@@ -1,0 +1,2 @@
+pub mod LabelsSeen
+pub mod JumpsSeen
