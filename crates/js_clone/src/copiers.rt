@@ -1,5 +1,5 @@
 //! What copies the nodes of each sort.
-use crate::copier::Copier;
+use node_clone::Copier;
 
 /// What copies the nodes that stand below a node, for each of the four sorts that the others are made of.
 #[derive(Clone, Copy)]

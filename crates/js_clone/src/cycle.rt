@@ -3,9 +3,9 @@
 //! They count the levels, and would give up past the last one; no memory holds a tree of `LEVELS` levels.
 ghost use Rattle.std.specs.Prelude.{◌≡◌, IfOk};
 
-use crate::copier::Copier;
 use crate::copiers::Copiers;
 use js_tree::{AssignmentTarget, BindingPattern, Expression, Statement};
+use node_clone::Copier;
 use std::alloc::{AllocError, Global};
 
 /// More levels than there are bytes to address.

@@ -1,5 +1,5 @@
 //! Copies of expressions.
-ghost use Rattle.js_clone.specs.Copies.{Copies};
+ghost use Rattle.node_clone.specs.Copies.{Copies};
 ghost use Rattle.std.specs.Prelude.{◌≡◌, IfOk};
 
 use crate::copiers::Copiers;

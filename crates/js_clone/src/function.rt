@@ -1,13 +1,13 @@
 //! Copies of functions and classes.
-ghost use Rattle.js_clone.specs.Copies.{Copies};
+ghost use Rattle.node_clone.specs.Copies.{Copies};
 ghost use Rattle.std.specs.Prelude.{◌≡◌, IfOk};
 
 use crate::copiers::Copiers;
-use crate::leaves::copy_binding;
 use js_tree::{
     ArrowFunctionBody, AssignmentTarget, BindingPattern, Boxed, Class, ClassBody, ClassElement,
     Expression, FormalParameter, FormalParameters, Function, Items, Statement,
 };
+use node_clone::copy_binding;
 use std::alloc::{AllocError, Global};
 
 impl<

@@ -3,19 +3,13 @@
 
 ghost use Rattle.std.specs.Prelude.{◌≡◌, IfOk};
 
-mod copier;
 mod copiers;
 mod cycle;
 mod expression;
-mod expression_nodes;
 mod function;
-mod leaves;
 mod pattern;
 mod program;
 mod statement;
-mod statement_nodes;
-#[cfg(test)]
-mod tests;
 
 use crate::cycle::{LEVELS, copy_expression, copy_pattern, copy_statement, copy_target};
 use crate::program::copy_program;

@@ -1,10 +1,9 @@
 //! Copies of programs.
 ghost use Rattle.std.specs.Prelude.{◌≡◌, IfOk};
 
-use crate::copier::Copier;
 use crate::cycle::{LEVELS, copy_statement};
-use crate::leaves::{copy_directives, copy_hashbang};
 use js_tree::{Items, Program, Statement};
+use node_clone::{Copier, copy_directives, copy_hashbang};
 use std::alloc::{AllocError, Global};
 
 fn copy_statements(alloc: Global, items: &[Statement]) -> Result<Items<Statement>, AllocError>

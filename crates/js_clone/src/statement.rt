@@ -1,15 +1,15 @@
 //! Copies of statements and declarations.
-ghost use Rattle.js_clone.specs.Copies.{Copies};
+ghost use Rattle.node_clone.specs.Copies.{Copies};
 ghost use Rattle.std.specs.Prelude.{◌≡◌, IfOk};
 
 use crate::copiers::Copiers;
-use crate::leaves::{
-    copy_break, copy_continue, copy_export_all, copy_export_from, copy_export_named, copy_import,
-};
 use js_tree::{
     AssignmentTarget, BindingPattern, CatchClause, Declaration, ExportDeclaration,
     ExportDefaultDeclaration, ExportDefaultDeclarationKind, Expression, ForStatementInit,
     ForStatementLeft, Items, Statement, SwitchCase, VariableDeclaration, VariableDeclarator,
+};
+use node_clone::{
+    copy_break, copy_continue, copy_export_all, copy_export_from, copy_export_named, copy_import,
 };
 use std::alloc::{AllocError, Global};
 

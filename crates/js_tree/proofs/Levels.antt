@@ -8,17 +8,17 @@ use Rattle.js_tree.specs.NodeTerms.{reference_term, binding_term, boolean_term, 
 use Rattle.js_tree.specs.LevelTerms.{pattern_texts, method_term, assignment_term, assignment_pattern_term, target_with_default_term, do_while_term, while_term, if_term, for_in_term, for_of_term, for_term, switch_term, arrow_term, try_term, object_pattern_term, object_target_term}
 use Rattle.js_tree.specs.TermOf.{class_element_term, expression_term, arrow_body_term, declaration_term, default_term, pattern_term, init_term, left_term, statement_term, target_term, class_term, parameter_term, parameters_term, function_term, binding_property_term, clause_term, case_term, declarator_term, target_property_term}
 use Rattle.js_tree.proofs.Seen.{class_element_here, expression_here, arrow_body_here, declaration_here, default_here, pattern_here, init_here, left_here, statement_here, target_here, class_element_out, expression_out, arrow_body_out, declaration_out, default_out, pattern_out, init_out, left_out, statement_out, target_out, class_out, parameter_out, parameters_out, function_out, binding_property_out, clause_out, case_out, declarator_out, target_property_out}
-use Rattle.js_tree.specs.declared.id.Span.{Span}
-use Rattle.js_tree.specs.declared.id.ScopeId.{ScopeId}
-use Rattle.js_tree.specs.declared.id.IdentifierReference.{IdentifierReference}
-use Rattle.js_tree.specs.declared.id.BindingIdentifier.{BindingIdentifier}
-use Rattle.js_tree.specs.declared.operator.AssignmentOperator.{AssignmentOperator}
-use Rattle.js_tree.specs.declared.literal.BooleanLiteral.{BooleanLiteral}
-use Rattle.js_tree.specs.declared.literal.NullLiteral.{NullLiteral}
-use Rattle.js_tree.specs.declared.literal.NumericLiteral.{NumericLiteral}
-use Rattle.js_tree.specs.declared.literal.BigIntLiteral.{BigIntLiteral}
-use Rattle.js_tree.specs.declared.literal.RegExpLiteral.{RegExpLiteral}
-use Rattle.js_tree.specs.declared.literal.StringLiteral.{StringLiteral}
+use Rattle.js_leaves.specs.declared.id.Span.{Span}
+use Rattle.js_leaves.specs.declared.id.ScopeId.{ScopeId}
+use Rattle.js_leaves.specs.declared.id.IdentifierReference.{IdentifierReference}
+use Rattle.js_leaves.specs.declared.id.BindingIdentifier.{BindingIdentifier}
+use Rattle.js_leaves.specs.declared.operator.AssignmentOperator.{AssignmentOperator}
+use Rattle.js_leaves.specs.declared.literal.BooleanLiteral.{BooleanLiteral}
+use Rattle.js_leaves.specs.declared.literal.NullLiteral.{NullLiteral}
+use Rattle.js_leaves.specs.declared.literal.NumericLiteral.{NumericLiteral}
+use Rattle.js_leaves.specs.declared.literal.BigIntLiteral.{BigIntLiteral}
+use Rattle.js_leaves.specs.declared.literal.RegExpLiteral.{RegExpLiteral}
+use Rattle.js_leaves.specs.declared.literal.StringLiteral.{StringLiteral}
 use Rattle.js_tree.specs.declared.expression.ThisExpression.{ThisExpression}
 use Rattle.js_tree.specs.declared.expression.Super.{Super}
 use Rattle.js_tree.specs.declared.expression.ImportMeta.{ImportMeta}

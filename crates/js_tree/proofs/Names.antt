@@ -5,8 +5,8 @@ use Rattle.std.proofs.lemmas.Grind.{flat_map-append}
 use Rattle.std.proofs.Math.Seq.{take-length}
 use Rattle.std.specs.List.{FoldsTo, flat_map}
 use Rattle.js_tree.specs.BoundNames.{Names, itself, present, pattern_step, property_step, no_names, pattern_names, property_names, properties_names, element_names, elements_names}
-use Rattle.js_tree.specs.declared.id.Span.{Span}
-use Rattle.js_tree.specs.declared.id.BindingIdentifier.{BindingIdentifier}
+use Rattle.js_leaves.specs.declared.id.Span.{Span}
+use Rattle.js_leaves.specs.declared.id.BindingIdentifier.{BindingIdentifier}
 use Rattle.js_tree.specs.declared.expression.Expression.{Expression, fold-Expression}
 use Rattle.js_tree.specs.declared.function.FormalParameter.{FormalParameter, fold-FormalParameter}
 use Rattle.js_tree.specs.declared.function.FormalParameters.{FormalParameters, fold-FormalParameters}

@@ -5,9 +5,9 @@ use Rattle.js_term.specs.Term.{Kind, Term, absent, list, node, one, two, all, fl
 use Rattle.js_tree.specs.NodeTerms.{maybe_term, array_element_term, property_term, object_property_term, argument_term, rest_term, target_rest_term}
 use Rattle.js_tree.specs.LevelTerms.{class_element_level, expression_level, arrow_body_level, declaration_level, default_level, pattern_level, init_level, left_level, statement_level, target_level, class_level, parameter_level, parameters_level, function_level, binding_property_level, clause_level, case_level, declarator_level, target_property_level}
 use Rattle.js_tree.specs.TermOf.{itself, class_element_step, expression_step, arrow_body_step, declaration_step, default_step, pattern_step, init_step, left_step, statement_step, target_step, class_step, parameter_step, parameters_step, function_step, binding_property_step, clause_step, case_step, declarator_step, target_property_step, class_element_term, expression_term, arrow_body_term, declaration_term, default_term, pattern_term, init_term, left_term, statement_term, target_term, class_term, parameter_term, parameters_term, function_term, binding_property_term, clause_term, case_term, declarator_term, target_property_term}
-use Rattle.js_tree.specs.declared.id.Span.{Span}
-use Rattle.js_tree.specs.declared.id.ScopeId.{ScopeId}
-use Rattle.js_tree.specs.declared.operator.UpdateOperator.{UpdateOperator}
+use Rattle.js_leaves.specs.declared.id.Span.{Span}
+use Rattle.js_leaves.specs.declared.id.ScopeId.{ScopeId}
+use Rattle.js_leaves.specs.declared.operator.UpdateOperator.{UpdateOperator}
 use Rattle.js_tree.specs.declared.expression.ArrayExpressionElement.TheVariants as array_element
 use Rattle.js_tree.specs.declared.expression.ArrayExpression.{ArrayExpression}
 use Rattle.js_tree.specs.declared.expression.PropertyKey.{PropertyKey}

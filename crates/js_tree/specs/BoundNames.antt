@@ -1,7 +1,7 @@
 -- The names that a pattern or a declaration binds, in text order (BoundNames, ECMAScript, section 8.2.1).
 use Rattle.std.specs.Prelude.{List, [], ◌∷◌, ◌++◌, Option, None, Some}
 use Rattle.std.specs.List.{flat_map}
-use Rattle.js_tree.specs.declared.id.BindingIdentifier.{BindingIdentifier}
+use Rattle.js_leaves.specs.declared.id.BindingIdentifier.{BindingIdentifier}
 use Rattle.js_tree.specs.declared.pattern.BindingRestElement.{BindingRestElement}
 use Rattle.js_tree.specs.declared.pattern.BindingProperty.{BindingProperty, BindingProperty-F}
 use Rattle.js_tree.specs.declared.pattern.BindingPattern.{BindingPattern, BindingPattern-F, fold-BindingPattern}

@@ -4,18 +4,18 @@ use Rattle.std.specs.Prelude.{List, [], ◌∷◌, Option, option_map, map, code
 use Rattle.js_term.specs.Term.{Text, Kind, Term, absent, list, node, none, more, one, two, all, maybe, flag}
 use Rattle.js_term.specs.Node.{truth}
 use Rattle.js_tree.specs.Words.{flags_word, binary_word, logical_word, unary_word, update_word, property_word, variable_word, is_shorthand}
-use Rattle.js_tree.specs.declared.id.IdentifierName.{IdentifierName}
-use Rattle.js_tree.specs.declared.id.LabelIdentifier.{LabelIdentifier}
-use Rattle.js_tree.specs.declared.id.PrivateIdentifier.{PrivateIdentifier}
-use Rattle.js_tree.specs.declared.id.IdentifierReference.{IdentifierReference}
-use Rattle.js_tree.specs.declared.id.BindingIdentifier.{BindingIdentifier}
-use Rattle.js_tree.specs.declared.literal.BooleanLiteral.{BooleanLiteral}
-use Rattle.js_tree.specs.declared.literal.NullLiteral.{NullLiteral}
-use Rattle.js_tree.specs.declared.literal.NumericLiteral.{NumericLiteral}
-use Rattle.js_tree.specs.declared.literal.BigIntLiteral.{BigIntLiteral}
-use Rattle.js_tree.specs.declared.literal.RegExpLiteral.{RegExpLiteral}
-use Rattle.js_tree.specs.declared.literal.StringLiteral.{StringLiteral}
-use Rattle.js_tree.specs.declared.literal.TemplateElement.{TemplateElement}
+use Rattle.js_leaves.specs.declared.id.IdentifierName.{IdentifierName}
+use Rattle.js_leaves.specs.declared.id.LabelIdentifier.{LabelIdentifier}
+use Rattle.js_leaves.specs.declared.id.PrivateIdentifier.{PrivateIdentifier}
+use Rattle.js_leaves.specs.declared.id.IdentifierReference.{IdentifierReference}
+use Rattle.js_leaves.specs.declared.id.BindingIdentifier.{BindingIdentifier}
+use Rattle.js_leaves.specs.declared.literal.BooleanLiteral.{BooleanLiteral}
+use Rattle.js_leaves.specs.declared.literal.NullLiteral.{NullLiteral}
+use Rattle.js_leaves.specs.declared.literal.NumericLiteral.{NumericLiteral}
+use Rattle.js_leaves.specs.declared.literal.BigIntLiteral.{BigIntLiteral}
+use Rattle.js_leaves.specs.declared.literal.RegExpLiteral.{RegExpLiteral}
+use Rattle.js_leaves.specs.declared.literal.StringLiteral.{StringLiteral}
+use Rattle.js_leaves.specs.declared.literal.TemplateElement.{TemplateElement}
 use Rattle.js_tree.specs.declared.expression.ThisExpression.{ThisExpression}
 use Rattle.js_tree.specs.declared.expression.Super.{Super}
 use Rattle.js_tree.specs.declared.expression.ImportMeta.{ImportMeta}

@@ -2,16 +2,16 @@
 use Rattle.std.specs.Prelude.{ℕ, [], ◌∷◌, ◌++◌, Bool, true, false, codes, nat_eq, bit_and, ◌&&◌}
 use Rattle.js_term.specs.Term.{Text, is_text, Kind, Term, node, more, one, flag}
 use Rattle.js_chars.specs.declared.flags.RegExpFlags.{RegExpFlags}
-use Rattle.js_tree.specs.declared.operator.AssignmentOperator.{AssignmentOperator}
-use Rattle.js_tree.specs.declared.operator.AssignmentOperator.TheVariants as assignment
-use Rattle.js_tree.specs.declared.operator.BinaryOperator.{BinaryOperator}
-use Rattle.js_tree.specs.declared.operator.BinaryOperator.TheVariants as binary
-use Rattle.js_tree.specs.declared.operator.LogicalOperator.{LogicalOperator}
-use Rattle.js_tree.specs.declared.operator.LogicalOperator.TheVariants as logical
-use Rattle.js_tree.specs.declared.operator.UnaryOperator.{UnaryOperator}
-use Rattle.js_tree.specs.declared.operator.UnaryOperator.TheVariants as unary
-use Rattle.js_tree.specs.declared.operator.UpdateOperator.{UpdateOperator}
-use Rattle.js_tree.specs.declared.operator.UpdateOperator.TheVariants as update
+use Rattle.js_leaves.specs.declared.operator.AssignmentOperator.{AssignmentOperator}
+use Rattle.js_leaves.specs.declared.operator.AssignmentOperator.TheVariants as assignment
+use Rattle.js_leaves.specs.declared.operator.BinaryOperator.{BinaryOperator}
+use Rattle.js_leaves.specs.declared.operator.BinaryOperator.TheVariants as binary
+use Rattle.js_leaves.specs.declared.operator.LogicalOperator.{LogicalOperator}
+use Rattle.js_leaves.specs.declared.operator.LogicalOperator.TheVariants as logical
+use Rattle.js_leaves.specs.declared.operator.UnaryOperator.{UnaryOperator}
+use Rattle.js_leaves.specs.declared.operator.UnaryOperator.TheVariants as unary
+use Rattle.js_leaves.specs.declared.operator.UpdateOperator.{UpdateOperator}
+use Rattle.js_leaves.specs.declared.operator.UpdateOperator.TheVariants as update
 use Rattle.js_tree.specs.declared.expression.PropertyKind.{PropertyKind}
 use Rattle.js_tree.specs.declared.expression.PropertyKind.TheVariants as property_kind
 use Rattle.js_tree.specs.declared.function.FunctionKind.{FunctionKind}

@@ -1,9 +1,9 @@
 use crate::bag::{Bag, Waiting};
 use crate::expression::{Expression, PropertyKey};
 use crate::function::Function;
-use crate::id::{BindingIdentifier, ScopeId, Span};
 use crate::statement::Statement;
 use js_items::{Boxed, Items};
+use js_leaves::{BindingIdentifier, ScopeId, Span};
 
 /// `static {body}`.
 #[derive(Drop)]

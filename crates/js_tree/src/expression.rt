@@ -1,16 +1,13 @@
 use crate::bag::Bag;
 use crate::class::Class;
 use crate::function::{ArrowFunctionBody, FormalParameters, Function};
-use crate::id::{IdentifierName, IdentifierReference, PrivateIdentifier, ScopeId, Span};
-use crate::literal::{
-    BigIntLiteral, BooleanLiteral, NullLiteral, NumericLiteral, RegExpLiteral, StringLiteral,
-    TemplateElement,
-};
-use crate::operator::{
-    AssignmentOperator, BinaryOperator, LogicalOperator, UnaryOperator, UpdateOperator,
-};
 use crate::target::{AssignmentTarget, SimpleAssignmentTarget};
 use js_items::{Boxed, Items};
+use js_leaves::{
+    AssignmentOperator, BigIntLiteral, BinaryOperator, BooleanLiteral, IdentifierName,
+    IdentifierReference, LogicalOperator, NullLiteral, NumericLiteral, PrivateIdentifier,
+    RegExpLiteral, ScopeId, Span, StringLiteral, TemplateElement, UnaryOperator, UpdateOperator,
+};
 
 /// `this`.
 #[derive(Clone, Debug, Drop)]

@@ -1,10 +1,10 @@
 use crate::bag::{Bag, Waiting};
 use crate::expression::Expression;
-use crate::id::{BindingIdentifier, ScopeId, Span};
 use crate::pattern::{BindingPattern, BindingRestElement};
 use crate::statement::Statement;
 use js_ident::Ident;
 use js_items::{Boxed, Items};
+use js_leaves::{BindingIdentifier, ScopeId, Span};
 
 /// A directive, as it is written, with its quotes.
 #[derive(Clone, Debug, Drop)]

@@ -2,11 +2,12 @@ use crate::bag::Bag;
 use crate::class::Class;
 use crate::expression::Expression;
 use crate::function::{Directive, Function};
-use crate::id::{BindingIdentifier, IdentifierName, IdentifierReference, ScopeId, Span};
-use crate::literal::StringLiteral;
 use crate::statement::{Statement, VariableDeclaration};
 use js_ident::Ident;
 use js_items::{Boxed, Items};
+use js_leaves::{
+    BindingIdentifier, IdentifierName, IdentifierReference, ScopeId, Span, StringLiteral,
+};
 
 /// A name by which modules import and export; a reference where a local name is exported without a source.
 #[derive(Clone, Debug, Drop)]

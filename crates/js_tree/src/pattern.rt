@@ -4,8 +4,8 @@ ghost use Rattle.std.specs.List.{FoldsTo};
 
 use crate::bag::{Bag, Waiting};
 use crate::expression::{Expression, PropertyKey};
-use crate::id::{BindingIdentifier, Span};
 use js_items::{Boxed, Items};
+use js_leaves::{BindingIdentifier, Span};
 
 /// `...argument` in a pattern or a list of parameters.
 #[derive(Drop)]

@@ -6,7 +6,6 @@ use crate::bag::{Bag, Waiting};
 use crate::class::Class;
 use crate::expression::Expression;
 use crate::function::Function;
-use crate::id::{BindingIdentifier, LabelIdentifier, ScopeId, Span};
 use crate::module::{
     ExportAllDeclaration, ExportDeclaration, ExportDefaultDeclaration, ExportFromDeclaration,
     ExportNamedDeclaration, ImportDeclaration,
@@ -14,6 +13,7 @@ use crate::module::{
 use crate::pattern::BindingPattern;
 use crate::target::AssignmentTarget;
 use js_items::{Boxed, Items};
+use js_leaves::{BindingIdentifier, LabelIdentifier, ScopeId, Span};
 
 /// `{body}`.
 #[derive(Drop)]

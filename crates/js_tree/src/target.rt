@@ -3,8 +3,8 @@ use crate::expression::{
     ComputedMemberExpression, Expression, PrivateFieldExpression, PropertyKey,
     StaticMemberExpression,
 };
-use crate::id::{IdentifierReference, Span};
 use js_items::{Boxed, Items};
+use js_leaves::{IdentifierReference, Span};
 
 /// A name or a member that is assigned to.
 #[derive(Drop)]
