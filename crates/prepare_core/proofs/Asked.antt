@@ -132,7 +132,9 @@ export_kept env old new s made n p q e = rw (p, keeps_export n) (item_added old 
 pub import_kept : (env : Env) (us : Terms) (s : Statement) (n : ImportDeclaration) → s ≡ statement.ImportDeclaration n → us ≡ append us (carried_each env (kept (statement_term s)))
 import_kept env us s n p = rw (p, keeps_import n) (sym (append_none us))
 
-pub kept_next : (env : Env) (xs : List Statement) (out new : List Statement) (start : Terms) (i : ℕ) (d x : Statement) → i < length xs → x ≡ get_or xs i d → all (map statement_term out) ≡ append start (carried_each env (all_kept (all (map statement_term (take i xs))))) → all (map statement_term new) ≡ append (all (map statement_term out)) (carried_each env (kept (statement_term x))) → all (map statement_term new) ≡ append start (carried_each env (all_kept (all (map statement_term (take (i + 1) xs)))))
-kept_next env xs out new start i d x l e p q =
-    let ks : Terms = all_kept (all (map statement_term (take i xs))) in
-    q ∙ rw (p, e, add-one, take-suc xs i d l, map-append statement_term (take i xs) (get_or xs i d ∷ []), kept_append (map statement_term (take i xs)) (statement_term (get_or xs i d)), carried_append env ks (kept (statement_term (get_or xs i d)))) (append_terms start (carried_each env ks) (carried_each env (kept (statement_term (get_or xs i d)))))
+-- a statement moves from what is left to what is made
+pub kept_turn : (env : Env) (x : Statement) (rest out new : List Statement) (whole : Terms) → append (all (map statement_term out)) (carried_each env (all_kept (all (map statement_term (x ∷ rest))))) ≡ whole → all (map statement_term new) ≡ append (all (map statement_term out)) (carried_each env (kept (statement_term x))) → append (all (map statement_term new)) (carried_each env (all_kept (all (map statement_term rest)))) ≡ whole
+kept_turn env x rest out new whole h q =
+    let front : Terms = carried_each env (kept (statement_term x)) in
+    let behind : Terms = carried_each env (all_kept (all (map statement_term rest))) in
+    rw (q, append_terms (all (map statement_term out)) front behind) (rw (carried_append env (kept (statement_term x)) (all_kept (all (map statement_term rest)))) at h)

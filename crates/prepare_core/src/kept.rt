@@ -50,18 +50,19 @@ fn push_kept(
     }
 }
 
-/// Adds what stays of the statements, with each imported name written as the member of its request.
+/// Adds what stays of the statements, with each imported name written as the member of its request. Each statement is
+/// freed as soon as it is made anew, so that its memory serves the next one.
 pub(crate) fn push_all_kept(
     alloc: Global,
     imports: &HashMap<Ident, Import>,
     out: &mut Items<Statement>,
-    body: &[Statement],
+    body: Items<Statement>,
 ) -> Result<(), AllocError>
-    ensures { OnOk result (all (map statement_term out.new) ≡ append (all (map statement_term out.old)) (carried_each (root_env imports.now) (all_kept (all (map statement_term body.now))))) }
+    ensures { OnOk result (all (map statement_term out.new) ≡ append (all (map statement_term out.old)) (carried_each (root_env imports.now) (all_kept (all (map statement_term body))))) }
 {
     let mut scopes = Items::new(alloc);
-    for one in body {
-        push_kept(alloc, imports, &mut scopes, out, one)?;
+    for one in body.into_vec() {
+        push_kept(alloc, imports, &mut scopes, out, &one)?;
     }
     Ok(())
 }

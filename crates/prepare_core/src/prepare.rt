@@ -26,15 +26,15 @@ pub struct Prepared {
 }
 
 /// Getters, requests, and the other statements.
-fn prepared_body(alloc: Global, body: &[Statement]) -> Result<Items<Statement>, AllocError>
-    requires { are_direct (all_kept (all (map statement_term body.now))) ≡ true }
-    ensures { IfOk result (λ it. all (map statement_term it) ≡ run_items (all (map statement_term body.now))) }
+fn prepared_body(alloc: Global, body: Items<Statement>) -> Result<Items<Statement>, AllocError>
+    requires { are_direct (all_kept (all (map statement_term body))) ≡ true }
+    ensures { IfOk result (λ it. all (map statement_term it) ≡ run_items (all (map statement_term body))) }
 {
     let names = RunnerNames::new(alloc)?;
-    let imports = imports_of(alloc, body)?;
+    let imports = imports_of(alloc, body.as_slice())?;
     let mut out = Items::new(alloc);
-    push_getters(alloc, &names, &imports, &mut out, body)?;
-    push_requests(alloc, &names, &mut out, body)?;
+    push_getters(alloc, &names, &imports, &mut out, body.as_slice())?;
+    push_requests(alloc, &names, &mut out, body.as_slice())?;
     push_all_kept(alloc, &imports, &mut out, body)?;
     Ok(out)
 }
@@ -47,7 +47,6 @@ pub fn prepare_module(alloc: Global, program: Program) -> Result<Prepared, Prepa
     ensures deps { IfOk result (λ p. AreDeps (sources_of (meaning (program_term program)).requests) p.deps.items) }
     ensures dynamic_deps { IfOk result (λ p. p.dynamic_deps.items ≡ []) }
 {
-    let made = prepared_body(alloc, program.body.as_slice())?;
     let deps = deps_of(alloc, program.body.as_slice())?;
     let Program {
         span,
@@ -56,7 +55,7 @@ pub fn prepare_module(alloc: Global, program: Program) -> Result<Prepared, Prepa
         body,
         scope_id,
     } = program;
-    drop(body);
+    let made = prepared_body(alloc, body)?;
     Ok(Prepared {
         program: Program {
             span,
