@@ -19,10 +19,10 @@ use Rattle.js_leaves.specs.declared.literal.NumericLiteral.{NumericLiteral}
 use Rattle.js_leaves.specs.declared.literal.BigIntLiteral.{BigIntLiteral}
 use Rattle.js_leaves.specs.declared.literal.RegExpLiteral.{RegExpLiteral}
 use Rattle.js_leaves.specs.declared.literal.StringLiteral.{StringLiteral}
-use Rattle.js_tree.specs.declared.expression.ThisExpression.{ThisExpression}
-use Rattle.js_tree.specs.declared.expression.Super.{Super}
-use Rattle.js_tree.specs.declared.expression.ImportMeta.{ImportMeta}
-use Rattle.js_tree.specs.declared.expression.NewTarget.{NewTarget}
+use Rattle.js_leaves.specs.declared.expression.ThisExpression.{ThisExpression}
+use Rattle.js_leaves.specs.declared.expression.Super.{Super}
+use Rattle.js_leaves.specs.declared.expression.ImportMeta.{ImportMeta}
+use Rattle.js_leaves.specs.declared.expression.NewTarget.{NewTarget}
 use Rattle.js_tree.specs.declared.expression.TemplateLiteral.{TemplateLiteral}
 use Rattle.js_tree.specs.declared.expression.TaggedTemplateExpression.{TaggedTemplateExpression}
 use Rattle.js_tree.specs.declared.expression.ParenthesizedExpression.{ParenthesizedExpression}
@@ -52,7 +52,7 @@ use Rattle.js_tree.specs.declared.function.FormalParameters.{FormalParameters, o
 use Rattle.js_tree.specs.declared.function.Function.{Function, out-Function}
 use Rattle.js_tree.specs.declared.function.ArrowFunctionBody.{ArrowFunctionBody, ArrowFunctionBody-F, out-ArrowFunctionBody}
 use Rattle.js_tree.specs.declared.class.StaticBlock.{StaticBlock}
-use Rattle.js_tree.specs.declared.class.MethodDefinitionKind.{MethodDefinitionKind}
+use Rattle.js_leaves.specs.declared.class.MethodDefinitionKind.{MethodDefinitionKind}
 use Rattle.js_tree.specs.declared.class.PropertyDefinition.{PropertyDefinition}
 use Rattle.js_tree.specs.declared.class.ClassElement.{ClassElement, ClassElement-F, out-ClassElement}
 use Rattle.js_tree.specs.declared.class.Class.{Class}
@@ -65,10 +65,10 @@ use Rattle.js_tree.specs.declared.target.AssignmentTargetProperty.{AssignmentTar
 use Rattle.js_tree.specs.declared.target.ArrayAssignmentTarget.{ArrayAssignmentTarget}
 use Rattle.js_tree.specs.declared.target.AssignmentTarget.{AssignmentTarget, AssignmentTarget-F, out-AssignmentTarget}
 use Rattle.js_tree.specs.declared.statement.BlockStatement.{BlockStatement}
-use Rattle.js_tree.specs.declared.statement.BreakStatement.{BreakStatement}
-use Rattle.js_tree.specs.declared.statement.ContinueStatement.{ContinueStatement}
-use Rattle.js_tree.specs.declared.statement.DebuggerStatement.{DebuggerStatement}
-use Rattle.js_tree.specs.declared.statement.EmptyStatement.{EmptyStatement}
+use Rattle.js_leaves.specs.declared.statement.BreakStatement.{BreakStatement}
+use Rattle.js_leaves.specs.declared.statement.ContinueStatement.{ContinueStatement}
+use Rattle.js_leaves.specs.declared.statement.DebuggerStatement.{DebuggerStatement}
+use Rattle.js_leaves.specs.declared.statement.EmptyStatement.{EmptyStatement}
 use Rattle.js_tree.specs.declared.statement.ExpressionStatement.{ExpressionStatement}
 use Rattle.js_tree.specs.declared.statement.VariableDeclarator.{VariableDeclarator}
 use Rattle.js_tree.specs.declared.statement.VariableDeclaration.{VariableDeclaration}
@@ -80,10 +80,10 @@ use Rattle.js_tree.specs.declared.statement.ThrowStatement.{ThrowStatement}
 use Rattle.js_tree.specs.declared.statement.SwitchCase.{SwitchCase}
 use Rattle.js_tree.specs.declared.statement.CatchClause.{CatchClause}
 use Rattle.js_tree.specs.declared.statement.Statement.{Statement, Statement-F, out-Statement}
-use Rattle.js_tree.specs.declared.module.ImportDeclaration.{ImportDeclaration}
-use Rattle.js_tree.specs.declared.module.ExportAllDeclaration.{ExportAllDeclaration}
-use Rattle.js_tree.specs.declared.module.ExportNamedDeclaration.{ExportNamedDeclaration}
-use Rattle.js_tree.specs.declared.module.ExportFromDeclaration.{ExportFromDeclaration}
+use Rattle.js_leaves.specs.declared.module.ImportDeclaration.{ImportDeclaration}
+use Rattle.js_leaves.specs.declared.module.ExportAllDeclaration.{ExportAllDeclaration}
+use Rattle.js_leaves.specs.declared.module.ExportNamedDeclaration.{ExportNamedDeclaration}
+use Rattle.js_leaves.specs.declared.module.ExportFromDeclaration.{ExportFromDeclaration}
 use Rattle.js_tree.specs.declared.module.Declaration.{Declaration, Declaration-F, out-Declaration}
 use Rattle.js_tree.specs.declared.module.ExportDeclaration.{ExportDeclaration}
 use Rattle.js_tree.specs.declared.module.ExportDefaultDeclarationKind.{ExportDefaultDeclarationKind, ExportDefaultDeclarationKind-F, out-ExportDefaultDeclarationKind}

@@ -26,7 +26,7 @@ use Rattle.js_tree.specs.declared.function.FormalParameterRest.{FormalParameterR
 use Rattle.js_tree.specs.declared.function.FormalParameters.{FormalParameters, FormalParameters-F, out-FormalParameters, map-FormalParameters, fold_out-FormalParameters}
 use Rattle.js_tree.specs.declared.function.Function.{Function, Function-F, out-Function, map-Function, fold_out-Function}
 use Rattle.js_tree.specs.declared.function.ArrowFunctionBody.{ArrowFunctionBody, ArrowFunctionBody-F, out-ArrowFunctionBody, map-ArrowFunctionBody, fold_out-ArrowFunctionBody}
-use Rattle.js_tree.specs.declared.class.MethodDefinitionKind.{MethodDefinitionKind}
+use Rattle.js_leaves.specs.declared.class.MethodDefinitionKind.{MethodDefinitionKind}
 use Rattle.js_tree.specs.declared.class.ClassElement.{ClassElement, ClassElement-F, out-ClassElement, map-ClassElement, fold_out-ClassElement}
 use Rattle.js_tree.specs.declared.class.Class.{Class, Class-F, out-Class, map-Class, fold_out-Class}
 use Rattle.js_tree.specs.declared.pattern.BindingRestElement.{BindingRestElement}

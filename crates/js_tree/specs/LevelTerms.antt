@@ -10,7 +10,7 @@ use Rattle.js_tree.specs.declared.function.FormalParameter.{FormalParameter-F}
 use Rattle.js_tree.specs.declared.function.FormalParameters.{FormalParameters-F}
 use Rattle.js_tree.specs.declared.function.Function.{Function-F}
 use Rattle.js_tree.specs.declared.function.ArrowFunctionBody.{ArrowFunctionBody-F}
-use Rattle.js_tree.specs.declared.class.MethodDefinitionKind.{MethodDefinitionKind}
+use Rattle.js_leaves.specs.declared.class.MethodDefinitionKind.{MethodDefinitionKind}
 use Rattle.js_tree.specs.declared.class.ClassElement.{ClassElement-F}
 use Rattle.js_tree.specs.declared.class.Class.{Class-F}
 use Rattle.js_tree.specs.declared.pattern.BindingRestElement.{BindingRestElement}

@@ -16,10 +16,10 @@ use Rattle.js_leaves.specs.declared.literal.BigIntLiteral.{BigIntLiteral}
 use Rattle.js_leaves.specs.declared.literal.RegExpLiteral.{RegExpLiteral}
 use Rattle.js_leaves.specs.declared.literal.StringLiteral.{StringLiteral}
 use Rattle.js_leaves.specs.declared.literal.TemplateElement.{TemplateElement}
-use Rattle.js_tree.specs.declared.expression.ThisExpression.{ThisExpression}
-use Rattle.js_tree.specs.declared.expression.Super.{Super}
-use Rattle.js_tree.specs.declared.expression.ImportMeta.{ImportMeta}
-use Rattle.js_tree.specs.declared.expression.NewTarget.{NewTarget}
+use Rattle.js_leaves.specs.declared.expression.ThisExpression.{ThisExpression}
+use Rattle.js_leaves.specs.declared.expression.Super.{Super}
+use Rattle.js_leaves.specs.declared.expression.ImportMeta.{ImportMeta}
+use Rattle.js_leaves.specs.declared.expression.NewTarget.{NewTarget}
 use Rattle.js_tree.specs.declared.expression.TemplateLiteral.{TemplateLiteral}
 use Rattle.js_tree.specs.declared.expression.TaggedTemplateExpression.{TaggedTemplateExpression}
 use Rattle.js_tree.specs.declared.expression.ParenthesizedExpression.{ParenthesizedExpression}
@@ -53,7 +53,7 @@ use Rattle.js_tree.specs.declared.expression.PrivateFieldExpression.{PrivateFiel
 use Rattle.js_tree.specs.declared.expression.ChainElement.{ChainElement}
 use Rattle.js_tree.specs.declared.expression.ChainElement.TheVariants as chain_element
 use Rattle.js_tree.specs.declared.expression.ChainExpression.{ChainExpression}
-use Rattle.js_tree.specs.declared.function.Directive.{Directive}
+use Rattle.js_leaves.specs.declared.function.Directive.{Directive}
 use Rattle.js_tree.specs.declared.function.FunctionBody.{FunctionBody}
 use Rattle.js_tree.specs.declared.function.FormalParameterRest.{FormalParameterRest}
 use Rattle.js_tree.specs.declared.class.StaticBlock.{StaticBlock}
@@ -66,28 +66,28 @@ use Rattle.js_tree.specs.declared.target.SimpleAssignmentTarget.TheVariants as s
 use Rattle.js_tree.specs.declared.target.AssignmentTargetRest.{AssignmentTargetRest}
 use Rattle.js_tree.specs.declared.target.ArrayAssignmentTarget.{ArrayAssignmentTarget}
 use Rattle.js_tree.specs.declared.statement.BlockStatement.{BlockStatement}
-use Rattle.js_tree.specs.declared.statement.BreakStatement.{BreakStatement}
-use Rattle.js_tree.specs.declared.statement.ContinueStatement.{ContinueStatement}
-use Rattle.js_tree.specs.declared.statement.DebuggerStatement.{DebuggerStatement}
-use Rattle.js_tree.specs.declared.statement.EmptyStatement.{EmptyStatement}
+use Rattle.js_leaves.specs.declared.statement.BreakStatement.{BreakStatement}
+use Rattle.js_leaves.specs.declared.statement.ContinueStatement.{ContinueStatement}
+use Rattle.js_leaves.specs.declared.statement.DebuggerStatement.{DebuggerStatement}
+use Rattle.js_leaves.specs.declared.statement.EmptyStatement.{EmptyStatement}
 use Rattle.js_tree.specs.declared.statement.ExpressionStatement.{ExpressionStatement}
 use Rattle.js_tree.specs.declared.statement.VariableDeclaration.{VariableDeclaration}
 use Rattle.js_tree.specs.declared.statement.LabeledStatement.{LabeledStatement}
 use Rattle.js_tree.specs.declared.statement.ReturnStatement.{ReturnStatement}
 use Rattle.js_tree.specs.declared.statement.ThrowStatement.{ThrowStatement}
 use Rattle.js_tree.specs.declared.statement.CatchParameter.{CatchParameter}
-use Rattle.js_tree.specs.declared.module.ModuleExportName.{ModuleExportName}
-use Rattle.js_tree.specs.declared.module.ModuleExportName.TheVariants as export_name
-use Rattle.js_tree.specs.declared.module.ImportSpecifier.{ImportSpecifier}
-use Rattle.js_tree.specs.declared.module.ImportDefaultSpecifier.{ImportDefaultSpecifier}
-use Rattle.js_tree.specs.declared.module.ImportNamespaceSpecifier.{ImportNamespaceSpecifier}
-use Rattle.js_tree.specs.declared.module.ImportDeclarationSpecifier.{ImportDeclarationSpecifier}
-use Rattle.js_tree.specs.declared.module.ImportDeclarationSpecifier.TheVariants as import_item
-use Rattle.js_tree.specs.declared.module.ImportDeclaration.{ImportDeclaration}
-use Rattle.js_tree.specs.declared.module.ExportAllDeclaration.{ExportAllDeclaration}
-use Rattle.js_tree.specs.declared.module.ExportSpecifier.{ExportSpecifier}
-use Rattle.js_tree.specs.declared.module.ExportNamedDeclaration.{ExportNamedDeclaration}
-use Rattle.js_tree.specs.declared.module.ExportFromDeclaration.{ExportFromDeclaration}
+use Rattle.js_leaves.specs.declared.module.ModuleExportName.{ModuleExportName}
+use Rattle.js_leaves.specs.declared.module.ModuleExportName.TheVariants as export_name
+use Rattle.js_leaves.specs.declared.module.ImportSpecifier.{ImportSpecifier}
+use Rattle.js_leaves.specs.declared.module.ImportDefaultSpecifier.{ImportDefaultSpecifier}
+use Rattle.js_leaves.specs.declared.module.ImportNamespaceSpecifier.{ImportNamespaceSpecifier}
+use Rattle.js_leaves.specs.declared.module.ImportDeclarationSpecifier.{ImportDeclarationSpecifier}
+use Rattle.js_leaves.specs.declared.module.ImportDeclarationSpecifier.TheVariants as import_item
+use Rattle.js_leaves.specs.declared.module.ImportDeclaration.{ImportDeclaration}
+use Rattle.js_leaves.specs.declared.module.ExportAllDeclaration.{ExportAllDeclaration}
+use Rattle.js_leaves.specs.declared.module.ExportSpecifier.{ExportSpecifier}
+use Rattle.js_leaves.specs.declared.module.ExportNamedDeclaration.{ExportNamedDeclaration}
+use Rattle.js_leaves.specs.declared.module.ExportFromDeclaration.{ExportFromDeclaration}
 use Rattle.js_tree.specs.declared.module.ExportDeclaration.{ExportDeclaration}
 use Rattle.js_tree.specs.declared.module.ExportDefaultDeclaration.{ExportDefaultDeclaration}
 

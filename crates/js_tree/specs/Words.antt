@@ -12,16 +12,16 @@ use Rattle.js_leaves.specs.declared.operator.UnaryOperator.{UnaryOperator}
 use Rattle.js_leaves.specs.declared.operator.UnaryOperator.TheVariants as unary
 use Rattle.js_leaves.specs.declared.operator.UpdateOperator.{UpdateOperator}
 use Rattle.js_leaves.specs.declared.operator.UpdateOperator.TheVariants as update
-use Rattle.js_tree.specs.declared.expression.PropertyKind.{PropertyKind}
-use Rattle.js_tree.specs.declared.expression.PropertyKind.TheVariants as property_kind
-use Rattle.js_tree.specs.declared.function.FunctionKind.{FunctionKind}
-use Rattle.js_tree.specs.declared.function.FunctionKind.TheVariants as function_kind
-use Rattle.js_tree.specs.declared.class.MethodDefinitionKind.{MethodDefinitionKind}
-use Rattle.js_tree.specs.declared.class.MethodDefinitionKind.TheVariants as method_kind
-use Rattle.js_tree.specs.declared.class.ClassKind.{ClassKind}
-use Rattle.js_tree.specs.declared.class.ClassKind.TheVariants as class_kind
-use Rattle.js_tree.specs.declared.statement.VariableDeclarationKind.{VariableDeclarationKind}
-use Rattle.js_tree.specs.declared.statement.VariableDeclarationKind.TheVariants as variable_kind
+use Rattle.js_leaves.specs.declared.expression.PropertyKind.{PropertyKind}
+use Rattle.js_leaves.specs.declared.expression.PropertyKind.TheVariants as property_kind
+use Rattle.js_leaves.specs.declared.function.FunctionKind.{FunctionKind}
+use Rattle.js_leaves.specs.declared.function.FunctionKind.TheVariants as function_kind
+use Rattle.js_leaves.specs.declared.class.MethodDefinitionKind.{MethodDefinitionKind}
+use Rattle.js_leaves.specs.declared.class.MethodDefinitionKind.TheVariants as method_kind
+use Rattle.js_leaves.specs.declared.class.ClassKind.{ClassKind}
+use Rattle.js_leaves.specs.declared.class.ClassKind.TheVariants as class_kind
+use Rattle.js_leaves.specs.declared.statement.VariableDeclarationKind.{VariableDeclarationKind}
+use Rattle.js_leaves.specs.declared.statement.VariableDeclarationKind.TheVariants as variable_kind
 
 -- the letters of the flags that are set
 abbrev pub letter : RegExpFlags → ℕ → Text → Text

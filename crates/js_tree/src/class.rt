@@ -3,7 +3,7 @@ use crate::expression::{Expression, PropertyKey};
 use crate::function::Function;
 use crate::statement::Statement;
 use js_items::{Boxed, Items};
-use js_leaves::{BindingIdentifier, ScopeId, Span};
+use js_leaves::{BindingIdentifier, ClassKind, MethodDefinitionKind, ScopeId, Span};
 
 /// `static {body}`.
 #[derive(Drop)]
@@ -11,15 +11,6 @@ pub struct StaticBlock<S = Statement> {
     pub span: Span,
     pub body: Items<S>,
     pub scope_id: Option<ScopeId>,
-}
-
-/// What a method definition defines.
-#[derive(Clone, Copy, Debug, PartialEq, Eq)]
-pub enum MethodDefinitionKind {
-    Constructor,
-    Method,
-    Get,
-    Set,
 }
 
 /// A constructor, method, getter or setter. In a tree its fields stand in `ClassElement::MethodDefinition`.
@@ -65,13 +56,6 @@ pub enum ClassElement {
 pub struct ClassBody<C = ClassElement> {
     pub span: Span,
     pub body: Items<C>,
-}
-
-/// Where a class stands.
-#[derive(Clone, Copy, Debug, PartialEq, Eq)]
-pub enum ClassKind {
-    ClassDeclaration,
-    ClassExpression,
 }
 
 /// `class id extends super_class body`.

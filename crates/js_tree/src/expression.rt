@@ -5,33 +5,10 @@ use crate::target::{AssignmentTarget, SimpleAssignmentTarget};
 use js_items::{Boxed, Items};
 use js_leaves::{
     AssignmentOperator, BigIntLiteral, BinaryOperator, BooleanLiteral, IdentifierName,
-    IdentifierReference, LogicalOperator, NullLiteral, NumericLiteral, PrivateIdentifier,
-    RegExpLiteral, ScopeId, Span, StringLiteral, TemplateElement, UnaryOperator, UpdateOperator,
+    IdentifierReference, ImportMeta, LogicalOperator, NewTarget, NullLiteral, NumericLiteral,
+    PrivateIdentifier, PropertyKind, RegExpLiteral, ScopeId, Span, StringLiteral, Super,
+    TemplateElement, ThisExpression, UnaryOperator, UpdateOperator,
 };
-
-/// `this`.
-#[derive(Clone, Debug, Drop)]
-pub struct ThisExpression {
-    pub span: Span,
-}
-
-/// `super`, as an object or a callee.
-#[derive(Clone, Debug, Drop)]
-pub struct Super {
-    pub span: Span,
-}
-
-/// `import.meta`.
-#[derive(Clone, Debug, Drop)]
-pub struct ImportMeta {
-    pub span: Span,
-}
-
-/// `new.target`.
-#[derive(Clone, Debug, Drop)]
-pub struct NewTarget {
-    pub span: Span,
-}
 
 /// A template: its texts, with the expressions between them.
 #[derive(Drop)]
@@ -92,14 +69,6 @@ pub enum PropertyKey<E = Expression> {
     StaticIdentifier(IdentifierName),
     PrivateIdentifier(PrivateIdentifier),
     Expression(Boxed<E>),
-}
-
-/// Whether a property of an object is a value, a getter or a setter.
-#[derive(Clone, Copy, Debug, PartialEq, Eq)]
-pub enum PropertyKind {
-    Init,
-    Get,
-    Set,
 }
 
 /// `key: value`, a method, a getter or a setter of an object.

@@ -2,16 +2,8 @@ use crate::bag::{Bag, Waiting};
 use crate::expression::Expression;
 use crate::pattern::{BindingPattern, BindingRestElement};
 use crate::statement::Statement;
-use js_ident::Ident;
 use js_items::{Boxed, Items};
-use js_leaves::{BindingIdentifier, ScopeId, Span};
-
-/// A directive, as it is written, with its quotes.
-#[derive(Clone, Debug, Drop)]
-pub struct Directive {
-    pub span: Span,
-    pub raw: Ident,
-}
+use js_leaves::{BindingIdentifier, Directive, FunctionKind, ScopeId, Span};
 
 /// `{directives statements}` of a function.
 #[derive(Drop)]
@@ -44,13 +36,6 @@ pub struct FormalParameters {
     pub span: Span,
     pub items: Items<FormalParameter>,
     pub rest: Option<FormalParameterRest>,
-}
-
-/// Where a function stands.
-#[derive(Clone, Copy, Debug, PartialEq, Eq)]
-pub enum FunctionKind {
-    FunctionDeclaration,
-    FunctionExpression,
 }
 
 /// `function id(params) body`, or the function of a method.

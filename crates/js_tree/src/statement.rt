@@ -6,14 +6,15 @@ use crate::bag::{Bag, Waiting};
 use crate::class::Class;
 use crate::expression::Expression;
 use crate::function::Function;
-use crate::module::{
-    ExportAllDeclaration, ExportDeclaration, ExportDefaultDeclaration, ExportFromDeclaration,
-    ExportNamedDeclaration, ImportDeclaration,
-};
+use crate::module::{ExportDeclaration, ExportDefaultDeclaration};
 use crate::pattern::BindingPattern;
 use crate::target::AssignmentTarget;
 use js_items::{Boxed, Items};
-use js_leaves::{BindingIdentifier, LabelIdentifier, ScopeId, Span};
+use js_leaves::{
+    BindingIdentifier, BreakStatement, ContinueStatement, DebuggerStatement, EmptyStatement,
+    ExportAllDeclaration, ExportFromDeclaration, ExportNamedDeclaration, ImportDeclaration,
+    LabelIdentifier, ScopeId, Span, VariableDeclarationKind,
+};
 
 /// `{body}`.
 #[derive(Drop)]
@@ -21,32 +22,6 @@ pub struct BlockStatement<S = Statement> {
     pub span: Span,
     pub body: Items<S>,
     pub scope_id: Option<ScopeId>,
-}
-
-/// `break;` or `break label;`.
-#[derive(Clone, Debug, Drop)]
-pub struct BreakStatement {
-    pub span: Span,
-    pub label: Option<LabelIdentifier>,
-}
-
-/// `continue;` or `continue label;`.
-#[derive(Clone, Debug, Drop)]
-pub struct ContinueStatement {
-    pub span: Span,
-    pub label: Option<LabelIdentifier>,
-}
-
-/// `debugger;`.
-#[derive(Clone, Debug, Drop)]
-pub struct DebuggerStatement {
-    pub span: Span,
-}
-
-/// `;`.
-#[derive(Clone, Debug, Drop)]
-pub struct EmptyStatement {
-    pub span: Span,
 }
 
 /// `expression;`.
@@ -79,14 +54,6 @@ pub struct WhileStatement {
     pub span: Span,
     pub test: Boxed<Expression>,
     pub body: Boxed<Statement>,
-}
-
-/// Whether names are declared by `var`, `let` or `const`.
-#[derive(Clone, Copy, Debug, PartialEq, Eq)]
-pub enum VariableDeclarationKind {
-    Var,
-    Let,
-    Const,
 }
 
 /// `id = init` of a declaration.
