@@ -3,7 +3,7 @@
 use Rattle.std.proofs.Common.{◌≡◌, sym, subst, ap, ◌∙◌, List, [], ◌∷◌, Option, map, codes}
 use Rattle.std.specs.Prelude.{option_map, Bool}
 use Rattle.js_term.specs.Term.{Text, Kind, Term, list, node, Terms, more, two, all, maybe, flag}
-use Rattle.js_tree.specs.Words.{function_word, class_word}
+use Rattle.js_leaves.specs.Words.{function_word, class_word}
 use Rattle.js_tree.specs.NodeTerms.{reference_term, binding_term, boolean_term, null_term, number_term, bigint_term, regexp_term, string_term, this_term, super_term, import_meta_term, new_target_term, break_term, continue_term, debugger_term, empty_term, import_term, export_all_term, export_named_term, export_from_term, template_term, tagged_term, parenthesized_term, sequence_term, array_term, key_term, object_term, yield_term, await_term, conditional_term, logical_term, binary_term, private_in_term, unary_term, call_term, new_term, import_expression_term, member_term, computed_member_term, private_field_term, chain_term, update_term, field_term, static_block_term, class_body_term, body_term, parameter_rest_term, array_pattern_term, array_target_term, block_term, effect_term, labeled_term, return_term, throw_term, variables_term, catch_parameter_term, export_term, export_default_term}
 use Rattle.js_tree.specs.LevelTerms.{pattern_texts, method_term, assignment_term, assignment_pattern_term, target_with_default_term, do_while_term, while_term, if_term, for_in_term, for_of_term, for_term, switch_term, arrow_term, try_term, object_pattern_term, object_target_term}
 use Rattle.js_tree.specs.TermOf.{class_element_term, expression_term, arrow_body_term, declaration_term, default_term, pattern_term, init_term, left_term, statement_term, target_term, class_term, parameter_term, parameters_term, function_term, binding_property_term, clause_term, case_term, declarator_term, target_property_term}

@@ -1,7 +1,7 @@
 -- One level of a tree as a term, by what the levels below are seen as.
 use Rattle.std.specs.Prelude.{List, [], ◌∷◌, Option, option_map, map, Bool, codes}
 use Rattle.js_term.specs.Term.{Text, Kind, Term, list, node, more, one, two, all, maybe, flag}
-use Rattle.js_tree.specs.Words.{assignment_word, method_word, function_word, class_word, is_shorthand}
+use Rattle.js_leaves.specs.Words.{assignment_word, method_word, function_word, class_word, is_shorthand}
 use Rattle.js_tree.specs.NodeTerms.{reference_term, binding_term, boolean_term, null_term, number_term, bigint_term, regexp_term, string_term, this_term, super_term, import_meta_term, new_target_term, break_term, continue_term, debugger_term, empty_term, import_term, export_all_term, export_named_term, export_from_term, template_term, tagged_term, parenthesized_term, sequence_term, array_term, key_term, object_term, yield_term, await_term, conditional_term, logical_term, binary_term, private_in_term, unary_term, call_term, new_term, import_expression_term, member_term, computed_member_term, private_field_term, chain_term, update_term, field_term, static_block_term, class_body_term, body_term, rest_term, parameter_rest_term, array_pattern_term, target_rest_term, array_target_term, block_term, effect_term, labeled_term, return_term, throw_term, variables_term, catch_parameter_term, export_term, export_default_term}
 use Rattle.js_leaves.specs.declared.operator.AssignmentOperator.{AssignmentOperator}
 use Rattle.js_tree.specs.declared.expression.PropertyKey.{PropertyKey}

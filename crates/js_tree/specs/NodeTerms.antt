@@ -3,7 +3,7 @@
 use Rattle.std.specs.Prelude.{List, [], ◌∷◌, Option, option_map, map, codes}
 use Rattle.js_term.specs.Term.{Text, Kind, Term, absent, list, node, none, more, one, two, all, maybe, flag}
 use Rattle.js_term.specs.Node.{truth}
-use Rattle.js_tree.specs.Words.{flags_word, binary_word, logical_word, unary_word, update_word, property_word, variable_word, is_shorthand}
+use Rattle.js_leaves.specs.Words.{flags_word, binary_word, logical_word, unary_word, update_word, property_word, variable_word, is_shorthand}
 use Rattle.js_leaves.specs.declared.id.IdentifierName.{IdentifierName}
 use Rattle.js_leaves.specs.declared.id.LabelIdentifier.{LabelIdentifier}
 use Rattle.js_leaves.specs.declared.id.PrivateIdentifier.{PrivateIdentifier}
