@@ -14,10 +14,21 @@ mod statement;
 pub use class::{ClassKind, MethodDefinitionKind};
 pub use expression::{ImportMeta, NewTarget, PropertyKind, Super, ThisExpression};
 pub use function::{Directive, FunctionKind};
+pub use id::{
+    BindingIdentifier, IdentifierName, IdentifierReference, LabelIdentifier, PrivateIdentifier,
+    ReferenceId, ScopeId, Span, SymbolId,
+};
+pub use literal::{
+    BigIntLiteral, BooleanLiteral, NullLiteral, NumericLiteral, RegExpLiteral, StringLiteral,
+    TemplateElement,
+};
 pub use module::{
     ExportAllDeclaration, ExportFromDeclaration, ExportNamedDeclaration, ExportSpecifier,
     ImportDeclaration, ImportDeclarationSpecifier, ImportDefaultSpecifier,
     ImportNamespaceSpecifier, ImportSpecifier, ModuleExportName,
+};
+pub use operator::{
+    AssignmentOperator, BinaryOperator, LogicalOperator, UnaryOperator, UpdateOperator,
 };
 pub use statement::{
     BreakStatement, ContinueStatement, DebuggerStatement, EmptyStatement, VariableDeclarationKind,
