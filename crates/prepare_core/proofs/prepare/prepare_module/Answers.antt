@@ -16,15 +16,13 @@ use Rattle.prepare_core.proofs.prepare.prepare_module.Goals as goal
 pub prepared_body-requires : goal.prepared_body-requires
 prepared_body-requires c =
     let t = program_term c.args.program in
-    rw c.as_slice.ensures (all_kept_direct (all (map statement_term c.args.program.body)) (small_module t (and_parts (has_small_form t) (has_distinct_names t) c.requires).0).small_items)
+    all_kept_direct (all (map statement_term c.args.program.body)) (small_module t (and_parts (has_small_form t) (has_distinct_names t) c.requires).0).small_items
 
 pub returns-clause-means : goal.returns-clause-means
 returns-clause-means c =
-    let e = rw c.as_slice.ensures at c.in_ok-made.ensures in
     let few : length (requests (items_of (program_term c.args.program))) < 2 ^ 64 = omega (arith, requests_few c.args.program.body, ap length c.as_slice.ensures) in
-    ap read_back (prepared c.args.program c.in_ok-made.made e) ∙ run_means (program_term c.args.program) c.requires few
+    ap read_back (prepared c.args.program c.in_ok-made.made c.in_ok-made.ensures) ∙ run_means (program_term c.args.program) c.requires few
 
 pub returns-clause-printable : goal.returns-clause-printable
 returns-clause-printable c =
-    let e = rw c.as_slice.ensures at c.in_ok-made.ensures in
-    ap is_printable (prepared c.args.program c.in_ok-made.made e) ∙ run_printable (program_term c.args.program) c.requires
+    ap is_printable (prepared c.args.program c.in_ok-made.made c.in_ok-made.ensures) ∙ run_printable (program_term c.args.program) c.requires
