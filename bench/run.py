@@ -2,8 +2,9 @@
 """Times the built program on small modules of growing length, and esbuild on the same texts where it is installed.
 
 Usage: bench/run.py [--most GROUPS] [--times N]
-Each module has groups of an import, an exported constant and a function that uses both. Wall time is the least of
-N runs, memory the greatest resident set; growth is the time over that of half as many groups.
+Each module has groups of an import, an exported constant and a function that uses both. The sizes are run in turn, N
+times; times are the least of a size's runs, memory the greatest resident set; growth is the time over that of half as
+many groups. The processor's time leaves out what other work on the machine, or beside a virtual one, takes away.
 """
 import argparse
 import json
@@ -31,7 +32,7 @@ def module_of(groups):
 
 
 def run_once(command, source):
-    """Seconds and peak bytes of one run, and its status."""
+    """Wall seconds, processor seconds and peak bytes of one run, and its status."""
     with open(source, "rb") as given, open(os.devnull, "wb") as sink:
         start = time.perf_counter()
         child = subprocess.Popen(command, stdin=given, stdout=sink, stderr=sink,
@@ -39,15 +40,53 @@ def run_once(command, source):
         _, status, usage = os.wait4(child.pid, 0)
         seconds = time.perf_counter() - start
     child.returncode = os.waitstatus_to_exitcode(status)
-    return seconds, usage.ru_maxrss * 1024, child.returncode
+    return seconds, usage.ru_utime + usage.ru_stime, usage.ru_maxrss * 1024, child.returncode
 
 
-def least(command, source, times, wanted):
-    """The least time and the greatest memory of some runs, each of which has to end with the wanted status."""
-    runs = [run_once(command, source) for _ in range(times)]
-    if any(status != wanted for _, _, status in runs):
-        sys.exit(f"{command[0]} ended with {runs[0][2]}")
-    return min(r[0] for r in runs), max(r[1] for r in runs)
+class Series:
+    """A command on one input: the least times and the greatest memory of its runs."""
+
+    def __init__(self, command, source):
+        self.command, self.source = command, source
+        self.seconds, self.processor, self.peak = float("inf"), float("inf"), 0
+
+    def run(self):
+        seconds, processor, peak, status = run_once(self.command, self.source)
+        if status != 0:
+            sys.exit(f"{self.command[0]} ended with {status}")
+        self.seconds, self.processor = min(self.seconds, seconds), min(self.processor, processor)
+        self.peak = max(self.peak, peak)
+
+
+def series_of(folder, groups, esbuild):
+    """The module of so many groups, its length, and the commands that are run on it."""
+    text = module_of(groups)
+    request = os.path.join(folder, f"{groups}.json")
+    source = os.path.join(folder, f"{groups}.js")
+    pathlib.Path(request).write_text(json.dumps({"module": text}))
+    pathlib.Path(source).write_text(text)
+    ours = Series([str(PROGRAM), "prepare"], request)
+    theirs = Series([esbuild, "--format=cjs", "--loader=js"], source) if esbuild else None
+    return groups, len(text), ours, theirs
+
+
+def growth(now, before):
+    return f"{now / before:.2f}" if before else "-"
+
+
+def print_table(rows):
+    print("| groups | bytes | seconds | growth | processor s | growth | MiB | esbuild s | esbuild processor s | esbuild MiB |")
+    print("|---|---|---|---|---|---|---|---|---|---|")
+    wall, processor = None, None
+    for groups, length, ours, theirs in rows:
+        columns = [str(groups), str(length), f"{ours.seconds:.4f}", growth(ours.seconds, wall),
+                   f"{ours.processor:.4f}", growth(ours.processor, processor), f"{ours.peak / 2**20:.1f}"]
+        if theirs:
+            columns += [f"{theirs.seconds:.4f}", f"{theirs.processor:.4f}", f"{theirs.peak / 2**20:.1f}"]
+        else:
+            columns += ["-", "-", "-"]
+        print("| " + " | ".join(columns) + " |")
+        wall, processor = ours.seconds, ours.processor
 
 
 def main():
@@ -59,24 +98,17 @@ def main():
         sys.exit("build the program first: ./prepare")
     esbuild = shutil.which("esbuild")
     resource.setrlimit(resource.RLIMIT_CORE, (0, 0))
-    print("| groups | bytes | seconds | growth | MiB | esbuild s | esbuild MiB |")
-    print("|---|---|---|---|---|---|---|")
-    groups, before = 500, None
     with tempfile.TemporaryDirectory() as folder:
+        rows, groups = [], 500
         while groups <= options.most:
-            text = module_of(groups)
-            request = os.path.join(folder, "request.json")
-            source = os.path.join(folder, "module.js")
-            pathlib.Path(request).write_text(json.dumps({"module": text}))
-            pathlib.Path(source).write_text(text)
-            seconds, peak = least([str(PROGRAM), "prepare"], request, options.times, 0)
-            growth = f"{seconds / before:.2f}" if before else "-"
-            other, other_peak = "-", "-"
-            if esbuild:
-                took, memory = least([esbuild, "--format=cjs", "--loader=js"], source, options.times, 0)
-                other, other_peak = f"{took:.4f}", f"{memory / 2**20:.1f}"
-            print(f"| {groups} | {len(text)} | {seconds:.4f} | {growth} | {peak / 2**20:.1f} | {other} | {other_peak} |")
-            groups, before = groups * 2, seconds
+            rows.append(series_of(folder, groups, esbuild))
+            groups *= 2
+        # One run of each size after the other, so that a slow moment of the machine meets them all.
+        for _ in range(options.times):
+            for _, _, ours, theirs in rows:
+                for one in filter(None, (ours, theirs)):
+                    one.run()
+        print_table(rows)
 
 
 if __name__ == "__main__":
