@@ -8,6 +8,3 @@ mod printer;
 mod strings;
 
 pub use printer::print_program;
-
-#[cfg(test)]
-mod tests;

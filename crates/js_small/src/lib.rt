@@ -7,8 +7,6 @@ mod repeats;
 mod sets;
 mod small;
 mod small_by;
-#[cfg(test)]
-mod tests;
 mod words;
 
 pub use small::is_small;

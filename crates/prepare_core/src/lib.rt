@@ -22,6 +22,3 @@ mod walk;
 pub use fault::PrepareFault;
 pub use js_small::is_small;
 pub use prepare::{Prepared, prepare_module};
-
-#[cfg(test)]
-mod tests;

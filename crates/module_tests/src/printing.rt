@@ -1,4 +1,4 @@
-use crate::print_program;
+use js_print::print_program;
 use small_tree::{Items, Program, Span};
 use std::test::Fail;
 

@@ -1,6 +1,6 @@
-use crate::prepare::prepare_module;
 use js_print::print_program;
 use js_read::read_module;
+use prepare_core::prepare_module;
 use std::alloc::Global;
 use std::process::Abort;
 use std::test::Fail;

@@ -1,4 +1,4 @@
-use crate::{is_small, is_small_by};
+use js_small::{is_small, is_small_by};
 use small_tree::{
     BindingIdentifier, BindingPattern, Boxed, CallExpression, Expression, ExpressionStatement,
     FormalParameter, FormalParameters, Function, FunctionBody, FunctionKind, Ident, IdentifierName,
