@@ -152,14 +152,8 @@ braces_printed separator F xs start mid out new h p q r =
     ∙ append_assoc (start ++ codes "{ ") (separated separator (map F xs)) (codes " }") ∙ append_assoc start (codes "{ ") (separated separator (map F xs) ++ codes " }")
     ∙ ap (λ z. start ++ z) (sym (braces_of separator (map F xs) some))
 
--- a loop that prints lines, one line further
-lines-append : (xs ys : List Text) → lines (xs ++ ys) ≡ lines xs ++ lines ys
-lines-append [] ys = refl
-lines-append (x ∷ xs) ys = ap (λ z. x ++ 10 ∷ z) (lines-append xs ys) ∙ sym (append_assoc x (10 ∷ lines xs) (lines ys))
-
-pub line_printed : {A : Type 0} (F : A → Text) (xs : List A) (start out mid new : Text) (i : ℕ) (x : A) → x ≡ get_or xs i x → out ≡ start ++ lines (map F (take i xs)) → i < length xs → mid ≡ out ++ F x → new ≡ mid ++ 10 ∷ [] → new ≡ start ++ lines (map F (take (i + 1) xs))
-line_printed F xs start out mid new i x e p h q r =
-    rw (add-one, take-suc xs i x h, map-append F (take i xs) (get_or xs i x ∷ []), lines-append (map F (take i xs)) (F (get_or xs i x) ∷ []))
-    (r ∙ ap (λ z. z ++ 10 ∷ []) (q ∙ ap (λ y. out ++ F y) e ∙ ap (λ z. z ++ F (get_or xs i x)) p)
-    ∙ append_assoc (start ++ lines (map F (take i xs))) (F (get_or xs i x)) (10 ∷ [])
-    ∙ append_assoc start (lines (map F (take i xs))) (F (get_or xs i x) ++ 10 ∷ []))
+-- a loop that prints lines moves one from what is left to what is written
+pub line_moved : {A : Type 0} (F : A → Text) (x : A) (rest : List A) (out mid new whole : Text) → out ++ lines (map F (x ∷ rest)) ≡ whole → mid ≡ out ++ F x → new ≡ mid ++ 10 ∷ [] → new ++ lines (map F rest) ≡ whole
+line_moved F x rest out mid new whole h q r =
+    ap (λ z. z ++ lines (map F rest)) r ∙ append_assoc mid (10 ∷ []) (lines (map F rest))
+    ∙ ap (λ z. z ++ 10 ∷ lines (map F rest)) q ∙ append_assoc out (F x) (10 ∷ lines (map F rest)) ∙ h

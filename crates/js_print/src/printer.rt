@@ -8,30 +8,32 @@ use crate::level::{is_loose_object, is_looser, reads_otherwise};
 use crate::strings::{print_lead, print_string};
 use small_tree::{
     BindingPattern, Declaration, Expression, FormalParameter, Function, FunctionKind,
-    ImportDeclaration, ImportSpecifier, ModuleExportName, ObjectProperty, Program, Statement,
-    VariableDeclarationKind, VariableDeclarator,
+    ImportDeclaration, ImportSpecifier, Items, ModuleExportName, ObjectProperty, Program,
+    Statement, VariableDeclarationKind, VariableDeclarator,
 };
 use std::alloc::{AllocError, Global};
 
 /// The text of a module, each statement on a line of its own.
 ///
-/// It spells the tree given with parentheses where a part would be read otherwise without them.
+/// It spells the tree given with parentheses where a part would be read otherwise without them. The tree is taken, and
+/// freed on the way.
 #[tactic(auto, using(crate::proofs::Whole::printed_module, crate::proofs::StatementRows::r_Program))]
-pub fn print_program(alloc: Global, program: &Program) -> Result<String, AllocError>
-    requires { is_printable (program_term program.now) ≡ true }
-    ensures layout { IfOk result (λ text. string_bytes text ≡ layout (program_term program.now)) }
-    ensures spells { IfOk result (λ text. IsPrinted (program_term program.now) (string_bytes text)) }
+pub fn print_program(alloc: Global, program: Program) -> Result<String, AllocError>
+    requires { is_printable (program_term program) ≡ true }
+    ensures layout { IfOk result (λ text. string_bytes text ≡ layout (program_term program)) }
+    ensures spells { IfOk result (λ text. IsPrinted (program_term program) (string_bytes text)) }
 {
     let mut out = String::new(alloc);
-    print_lines(&mut out, program.body.as_slice())?;
+    print_lines(&mut out, program.body)?;
     Ok(out)
 }
 
-fn print_lines(out: &mut String, items: &[Statement]) -> Result<(), AllocError>
-    ensures { OnOk result (string_bytes out.new ≡ string_bytes out.old ++ lines (map (λ s. printed (wrapped (statement_term s))) items.now)) }
+/// Frees each statement as soon as it is written, while it is at hand.
+fn print_lines(out: &mut String, items: Items<Statement>) -> Result<(), AllocError>
+    ensures { OnOk result (string_bytes out.new ≡ string_bytes out.old ++ lines (map (λ s. printed (wrapped (statement_term s))) items)) }
 {
-    for one in items {
-        print_statement(out, one)?;
+    for one in items.into_vec() {
+        print_statement(out, &one)?;
         out.push_str("\n")?;
     }
     Ok(())

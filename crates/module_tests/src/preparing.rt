@@ -8,7 +8,7 @@ use std::test::Fail;
 fn check(rt: &impl Abort, alloc: Global, module: &str, wanted: &str) -> Result<(), Fail> {
     assert!(rt; module.len() < 10000);
     let prepared = prepare_module(alloc, read_module(alloc, module)?)?;
-    let text = print_program(alloc, &prepared.program)?;
+    let text = print_program(alloc, prepared.program)?;
     assert_eq!(rt; text.as_str(), wanted);
     Ok(())
 }

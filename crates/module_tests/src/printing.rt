@@ -12,7 +12,7 @@ fn an_empty_module_is_an_empty_text(rt: HostRuntime) -> Result<(), Fail> {
         body: Items::new(alloc),
         scope_id: None,
     };
-    let text = print_program(alloc, &program)?;
+    let text = print_program(alloc, program)?;
     assert_eq!(rt; text.as_str(), "");
     Ok(())
 }

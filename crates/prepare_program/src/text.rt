@@ -90,7 +90,7 @@ pub fn prepare_text(alloc: Global, text: &str) -> Result<PreparedText, TextFault
         deps,
         dynamic_deps,
     } = prepare(alloc, program)?;
-    let module = print_program(alloc, &program)?;
+    let module = print_program(alloc, program)?;
     Ok(PreparedText {
         module,
         deps,
