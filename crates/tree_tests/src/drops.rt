@@ -10,7 +10,7 @@ use std::test::Fail;
 const NOWHERE: Span = Span { start: 0, end: 0 };
 
 /// `null` in as many parentheses.
-fn nested(alloc: Global, depth: usize) -> Result<Expression, AllocError> {
+pub(crate) fn nested(alloc: Global, depth: usize) -> Result<Expression, AllocError> {
     let mut tree = Expression::NullLiteral(NullLiteral { span: NOWHERE });
     for _ in 0..depth {
         let expression = Boxed::new(alloc, tree)?;

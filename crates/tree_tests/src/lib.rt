@@ -5,3 +5,5 @@
 mod copies;
 #[cfg(test)]
 mod drops;
+#[cfg(test)]
+mod module_trees;

@@ -1,0 +1,4 @@
+pub mod Heads
+pub mod Items
+pub mod Opened
+pub mod Shorthands
