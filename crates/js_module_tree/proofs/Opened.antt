@@ -1,16 +1,5 @@
 -- The equations of the tree, one ruleset for each type.
 use Rattle.js_tree.proofs.Levels.{c_StaticBlock, c_MethodDefinition, c_PropertyDefinition, e_BooleanLiteral, e_NullLiteral, e_NumericLiteral, e_BigIntLiteral, e_RegExpLiteral, e_StringLiteral, e_TemplateLiteral, e_Identifier, e_ThisExpression, e_Super, e_ImportMeta, e_NewTarget, e_ArrayExpression, e_ArrowFunctionExpression, e_AssignmentExpression, e_AwaitExpression, e_BinaryExpression, e_CallExpression, e_ChainExpression, e_ClassExpression, e_ConditionalExpression, e_FunctionExpression, e_ImportExpression, e_LogicalExpression, e_NewExpression, e_ObjectExpression, e_ParenthesizedExpression, e_SequenceExpression, e_TaggedTemplateExpression, e_UnaryExpression, e_UpdateExpression, e_YieldExpression, e_PrivateInExpression, e_StaticMemberExpression, e_ComputedMemberExpression, e_PrivateFieldExpression, a_Expression, a_FunctionBody, d_VariableDeclaration, d_FunctionDeclaration, d_ClassDeclaration, x_FunctionDeclaration, x_ClassDeclaration, x_Expression, p_BindingIdentifier, p_ObjectPattern, p_ArrayPattern, p_AssignmentPattern, i_VariableDeclaration, i_Expression, l_VariableDeclaration, l_AssignmentTarget, s_BlockStatement, s_BreakStatement, s_ContinueStatement, s_DebuggerStatement, s_DoWhileStatement, s_EmptyStatement, s_ExpressionStatement, s_ForInStatement, s_ForOfStatement, s_ForStatement, s_IfStatement, s_LabeledStatement, s_ReturnStatement, s_SwitchStatement, s_ThrowStatement, s_TryStatement, s_WhileStatement, s_VariableDeclaration, s_FunctionDeclaration, s_ClassDeclaration, s_ImportDeclaration, s_ExportAllDeclaration, s_ExportDefaultDeclaration, s_ExportNamedDeclaration, s_ExportFromDeclaration, s_ExportDeclaration, t_AssignmentTargetIdentifier, t_StaticMemberExpression, t_ComputedMemberExpression, t_PrivateFieldExpression, t_ArrayAssignmentTarget, t_ObjectAssignmentTarget, t_AssignmentTargetWithDefault, class_parts, parameter_parts, parameters_parts, function_parts, binding_property_parts, clause_parts, case_parts, declarator_parts, target_property_parts}
-use Rattle.std.proofs.Common.{◌≡◌, refl}
-use Rattle.js_term.specs.Term.{none}
-use Rattle.js_syntax.specs.Parts.{parts_of}
-use Rattle.js_tree.specs.NodeTerms.{export_name_term}
-use Rattle.js_leaves.specs.declared.module.ModuleExportName.{ModuleExportName}
-use Rattle.js_leaves.specs.declared.module.ModuleExportName.TheVariants as export_name
-
-pub export_name_parts : (n : ModuleExportName) → parts_of (export_name_term n) ≡ none
-export_name_parts (export_name.IdentifierName n) = refl
-export_name_parts (export_name.IdentifierReference n) = refl
-export_name_parts (export_name.StringLiteral n) = refl
 
 pub ruleset expressions = (e_BooleanLiteral, e_NullLiteral, e_NumericLiteral, e_BigIntLiteral, e_RegExpLiteral, e_StringLiteral, e_TemplateLiteral, e_Identifier, e_ThisExpression, e_Super, e_ImportMeta, e_NewTarget, e_ArrayExpression, e_ArrowFunctionExpression, e_AssignmentExpression, e_AwaitExpression, e_BinaryExpression, e_CallExpression, e_ChainExpression, e_ClassExpression, e_ConditionalExpression, e_FunctionExpression, e_ImportExpression, e_LogicalExpression, e_NewExpression, e_ObjectExpression, e_ParenthesizedExpression, e_SequenceExpression, e_TaggedTemplateExpression, e_UnaryExpression, e_UpdateExpression, e_YieldExpression, e_PrivateInExpression, e_StaticMemberExpression, e_ComputedMemberExpression, e_PrivateFieldExpression)
 

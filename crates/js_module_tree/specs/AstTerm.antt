@@ -1,5 +1,5 @@
 -- The term of a part of a tree.
-use Rattle.std.specs.Prelude.{List, [], ◌∷◌}
+use Rattle.std.specs.Prelude.{[], ◌∷◌}
 use Rattle.js_term.specs.Term.{Term, absent, none, node}
 use Rattle.js_rules.specs.KindOf.{kind_of}
 use Rattle.js_tree.specs.TermOf.{binding_property_term, case_term, class_element_term, class_term, clause_term, declarator_term, expression_term, function_term, parameter_term, parameters_term, pattern_term, program_term, statement_term, target_property_term, target_term}
