@@ -3,8 +3,8 @@
 //! They count the levels, and would give up past the last one; no memory holds a tree of `LEVELS` levels.
 ghost use Rattle.std.specs.Prelude.{◌≡◌, IfOk};
 
-use crate::copiers::Copiers;
 use js_tree::{AssignmentTarget, BindingPattern, Expression, Statement};
+use level_clone::Copiers;
 use node_clone::Copier;
 use std::alloc::{AllocError, Global};
 

@@ -3,13 +3,8 @@
 
 ghost use Rattle.std.specs.Prelude.{◌≡◌, IfOk};
 
-mod copiers;
 mod cycle;
-mod expression;
-mod function;
-mod pattern;
 mod program;
-mod statement;
 
 use crate::cycle::{LEVELS, copy_expression, copy_pattern, copy_statement, copy_target};
 use crate::program::copy_program;

@@ -15,7 +15,8 @@ impl<
     P: Fn(Global, &BindingPattern, u64) -> Result<BindingPattern, AllocError>,
     T: Fn(Global, &AssignmentTarget, u64) -> Result<AssignmentTarget, AllocError>,
 > Copiers<E, S, P, T> {
-    pub(crate) fn pattern(&self, n: &BindingPattern) -> Result<BindingPattern, AllocError>
+    /// Copies a pattern.
+    pub fn pattern(&self, n: &BindingPattern) -> Result<BindingPattern, AllocError>
         requires expressions { Copies self.now.expressions E.pre E.post }
         requires patterns { Copies self.now.patterns P.pre P.post }
         ensures { IfOk result (λ it. it ≡ n.now) }
@@ -75,7 +76,8 @@ impl<
         Ok(out)
     }
 
-    pub(crate) fn target(&self, n: &AssignmentTarget) -> Result<AssignmentTarget, AllocError>
+    /// Copies a target.
+    pub fn target(&self, n: &AssignmentTarget) -> Result<AssignmentTarget, AllocError>
         requires expressions { Copies self.now.expressions E.pre E.post }
         requires targets { Copies self.now.targets T.pre T.post }
         ensures { IfOk result (λ it. it ≡ n.now) }

@@ -12,7 +12,8 @@ impl<
     P: Fn(Global, &BindingPattern, u64) -> Result<BindingPattern, AllocError>,
     T: Fn(Global, &AssignmentTarget, u64) -> Result<AssignmentTarget, AllocError>,
 > Copiers<E, S, P, T> {
-    pub(crate) fn expression(&self, e: &Expression) -> Result<Expression, AllocError>
+    /// Copies an expression.
+    pub fn expression(&self, e: &Expression) -> Result<Expression, AllocError>
         requires expressions { Copies self.now.expressions E.pre E.post }
         requires statements { Copies self.now.statements S.pre S.post }
         requires patterns { Copies self.now.patterns P.pre P.post }

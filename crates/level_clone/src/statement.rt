@@ -19,7 +19,8 @@ impl<
     P: Fn(Global, &BindingPattern, u64) -> Result<BindingPattern, AllocError>,
     T: Fn(Global, &AssignmentTarget, u64) -> Result<AssignmentTarget, AllocError>,
 > Copiers<E, S, P, T> {
-    pub(crate) fn statement(&self, s: &Statement) -> Result<Statement, AllocError>
+    /// Copies a statement.
+    pub fn statement(&self, s: &Statement) -> Result<Statement, AllocError>
         requires expressions { Copies self.now.expressions E.pre E.post }
         requires statements { Copies self.now.statements S.pre S.post }
         requires patterns { Copies self.now.patterns P.pre P.post }

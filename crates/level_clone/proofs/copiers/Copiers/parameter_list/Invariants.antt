@@ -1,5 +1,5 @@
 use Rattle.std.proofs.Common.{◌≡◌, take}
-use Rattle.js_clone.proofs.copiers.Copiers.target_properties.Given as goal
+use Rattle.level_clone.proofs.copiers.Copiers.parameter_list.Given as goal
 
 abbrev pub invariant-loop-one : goal.invariant-loop-one
 invariant-loop-one g l = l.out ≡ take l.one-index l.items
