@@ -1,4 +1,1 @@
 pub mod Heads
-pub mod Items
-pub mod Opened
-pub mod Shorthands

@@ -9,13 +9,12 @@ ghost use Rattle.node_heads.specs.NodeSeen.{IsOpened, texts_seen};
 use crate::expression_list::ExpressionList;
 use crate::expression_node::ExpressionNode;
 use crate::function_node::FunctionNode;
-use crate::part::Sees;
 use crate::pattern_node::PatternNode;
 use crate::statement_list::StatementList;
 use crate::statement_node::StatementNode;
-use crate::termed::Termed;
 use js_rules::{Form, Kind, Lexicon, View};
 use node_heads::{Opened, Texts, has_texts, worded};
+use tree_parts::{Sees, Termed};
 
 /// A part of a tree: nothing, a node that is its kind and one text, another node, or a list.
 #[derive(Clone, Copy)]

@@ -6,12 +6,11 @@ ghost use Rattle.js_syntax.specs.Parts.{count, parts_of};
 ghost use Rattle.js_module_tree.specs.AstTerm.{ast_term, expression_list_term};
 
 use crate::ast_kind::AstKind;
-use crate::kids::item;
-use crate::part::Part;
 use js_tree::{
     Argument, ArrayExpressionElement, AssignmentTarget, AssignmentTargetProperty, BindingPattern,
     BindingProperty, Expression, Items, ObjectPropertyKind, TemplateElement,
 };
+use tree_parts::{Part, item};
 
 /// A list of an expression, of a pattern or of a target.
 #[derive(Clone, Copy)]
@@ -28,7 +27,7 @@ pub enum ExpressionList<'a> {
 }
 
 impl<'a> ExpressionList<'a> {
-    #[tactic(auto, using(crate::proofs::Items::count_all_map))]
+    #[tactic(auto, using(tree_parts::proofs::Items::count_all_map))]
     pub fn len(self) -> usize
         ensures { result ≡ count (parts_of (expression_list_term self.entry)) }
     {

@@ -7,14 +7,13 @@ ghost use Rattle.js_module_tree.specs.AstTerm.{ast_term, expression_node_term};
 ghost use Rattle.node_heads.specs.NodeSeen.{IsHead};
 
 use crate::ast_kind::AstKind;
-use crate::expression::{head_of_expression, part_of_expression};
-use crate::kids::{first, pair};
-use crate::member::{head_of_chain_element, part_of_chain_element, part_of_template};
-use crate::part::Part;
-use crate::property::head_of_object_property;
 use js_rules::Kind;
 use js_tree::{ChainElement, Expression, ObjectProperty, SpreadElement, TemplateLiteral};
 use node_heads::{Head, bare};
+use tree_parts::{
+    Part, first, head_of_chain_element, head_of_expression, head_of_object_property, pair,
+    part_of_chain_element, part_of_expression, part_of_template,
+};
 
 /// An expression, or a node that expressions alone hold.
 #[derive(Clone, Copy)]

@@ -7,16 +7,16 @@ ghost use Rattle.js_module_tree.specs.AstTerm.{ast_term, function_node_term};
 ghost use Rattle.node_heads.specs.NodeSeen.{IsHead};
 
 use crate::ast_kind::AstKind;
-use crate::class::{head_of_class, head_of_element, part_of_class, part_of_element};
-use crate::function::{head_of_function, part_of_function};
-use crate::kids::{first, pair};
-use crate::part::Part;
 use js_rules::Kind;
 use js_tree::{
     Class, ClassBody, ClassElement, FormalParameter, FormalParameterRest, FormalParameters,
     Function, FunctionBody,
 };
 use node_heads::{Head, bare};
+use tree_parts::{
+    Part, first, head_of_class, head_of_element, head_of_function, pair, part_of_class,
+    part_of_element, part_of_function,
+};
 
 /// A function, a class, or a node that they alone hold.
 #[derive(Clone, Copy)]
@@ -32,7 +32,7 @@ pub enum FunctionNode<'a> {
 }
 
 impl<'a> FunctionNode<'a> {
-    #[tactic(auto, using(crate::proofs::Opened::structs))]
+    #[tactic(auto, using(tree_parts::proofs::Opened::structs))]
     pub fn head(self) -> Head<'a>
         ensures { IsHead result (function_node_term self.entry) }
     {
@@ -49,7 +49,7 @@ impl<'a> FunctionNode<'a> {
     }
 
     /// The kid numbered `at`.
-    #[tactic(auto, using(crate::proofs::Opened::structs))]
+    #[tactic(auto, using(tree_parts::proofs::Opened::structs))]
     pub fn part(self, at: usize) -> AstKind<'a>
         ensures { ast_term result ≡ kid at (parts_of (function_node_term self.entry)) }
     {

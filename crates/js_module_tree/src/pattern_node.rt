@@ -7,17 +7,16 @@ ghost use Rattle.js_module_tree.specs.AstTerm.{ast_term, pattern_node_term};
 ghost use Rattle.node_heads.specs.NodeSeen.{IsHead};
 
 use crate::ast_kind::AstKind;
-use crate::kids::{first, pair};
-use crate::member::{head_of_simple_target, part_of_simple_target};
-use crate::part::Part;
-use crate::pattern::{head_of_pattern, head_of_target, part_of_pattern, part_of_target};
-use crate::property::{head_of_binding_property, head_of_target_property};
 use js_rules::Kind;
 use js_tree::{
     AssignmentTarget, AssignmentTargetProperty, AssignmentTargetRest, BindingPattern,
     BindingProperty, BindingRestElement, SimpleAssignmentTarget,
 };
 use node_heads::{Head, bare};
+use tree_parts::{
+    Part, first, head_of_binding_property, head_of_pattern, head_of_simple_target, head_of_target,
+    head_of_target_property, pair, part_of_pattern, part_of_simple_target, part_of_target,
+};
 
 /// A pattern, a target, or a node that they alone hold.
 #[derive(Clone, Copy)]
@@ -47,7 +46,7 @@ impl<'a> PatternNode<'a> {
     }
 
     /// The kid numbered `at`.
-    #[tactic(auto, using(crate::proofs::Opened::structs))]
+    #[tactic(auto, using(tree_parts::proofs::Opened::structs))]
     pub fn part(self, at: usize) -> AstKind<'a>
         ensures { ast_term result ≡ kid at (parts_of (pattern_node_term self.entry)) }
     {

@@ -6,12 +6,11 @@ ghost use Rattle.js_syntax.specs.Parts.{count, parts_of};
 ghost use Rattle.js_module_tree.specs.AstTerm.{ast_term, statement_list_term};
 
 use crate::ast_kind::AstKind;
-use crate::kids::item;
-use crate::part::Part;
 use js_tree::{
     ClassElement, Directive, ExportSpecifier, FormalParameter, ImportDeclarationSpecifier, Items,
     Statement, SwitchCase, VariableDeclarator,
 };
+use tree_parts::{Part, item};
 
 /// A list of a statement, of a function or of a class.
 #[derive(Clone, Copy)]
@@ -27,7 +26,7 @@ pub enum StatementList<'a> {
 }
 
 impl<'a> StatementList<'a> {
-    #[tactic(auto, using(crate::proofs::Items::count_all_map))]
+    #[tactic(auto, using(tree_parts::proofs::Items::count_all_map))]
     pub fn len(self) -> usize
         ensures { result ≡ count (parts_of (statement_list_term self.entry)) }
     {

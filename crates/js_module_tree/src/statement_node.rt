@@ -7,16 +7,16 @@ ghost use Rattle.js_module_tree.specs.AstTerm.{ast_term, statement_node_term};
 ghost use Rattle.node_heads.specs.NodeSeen.{IsHead};
 
 use crate::ast_kind::AstKind;
-use crate::kids::{first, pair};
-use crate::module::{head_of_import, head_of_program, part_of_import};
-use crate::part::Part;
-use crate::statement::{head_of_statement, part_of_statement};
 use js_rules::Kind;
 use js_tree::{
     BlockStatement, CatchClause, CatchParameter, ExportSpecifier, ImportDeclarationSpecifier,
     Program, Statement, SwitchCase, VariableDeclaration, VariableDeclarator,
 };
 use node_heads::{Head, bare, variable_word, worded};
+use tree_parts::{
+    Part, first, head_of_import, head_of_program, head_of_statement, pair, part_of_import,
+    part_of_statement,
+};
 
 /// A program, a statement, or a node that statements alone hold.
 #[derive(Clone, Copy)]
@@ -34,7 +34,7 @@ pub enum StatementNode<'a> {
 }
 
 impl<'a> StatementNode<'a> {
-    #[tactic(auto, using(crate::proofs::Opened::structs))]
+    #[tactic(auto, using(tree_parts::proofs::Opened::structs))]
     pub fn head(self) -> Head<'a>
         ensures { IsHead result (statement_node_term self.entry) }
     {
@@ -55,7 +55,7 @@ impl<'a> StatementNode<'a> {
     }
 
     /// The kid numbered `at`.
-    #[tactic(auto, using(crate::proofs::Opened::structs))]
+    #[tactic(auto, using(tree_parts::proofs::Opened::structs))]
     pub fn part(self, at: usize) -> AstKind<'a>
         ensures { ast_term result ≡ kid at (parts_of (statement_node_term self.entry)) }
     {
