@@ -153,7 +153,9 @@ braces_printed separator F xs start mid out new h p q r =
     ∙ ap (λ z. start ++ z) (sym (braces_of separator (map F xs) some))
 
 -- a loop that prints lines moves one from what is left to what is written
-pub line_moved : {A : Type 0} (F : A → Text) (x : A) (rest : List A) (out mid new whole : Text) → out ++ lines (map F (x ∷ rest)) ≡ whole → mid ≡ out ++ F x → new ≡ mid ++ 10 ∷ [] → new ++ lines (map F rest) ≡ whole
-line_moved F x rest out mid new whole h q r =
-    ap (λ z. z ++ lines (map F rest)) r ∙ append_assoc mid (10 ∷ []) (lines (map F rest))
-    ∙ ap (λ z. z ++ 10 ∷ lines (map F rest)) q ∙ append_assoc out (F x) (10 ∷ lines (map F rest)) ∙ h
+pub line_moved : {A : Type 0} (F : A → Text) (x : A) (rest : List A) (empty start line out new whole : Text) → out ++ lines (map F (x ∷ rest)) ≡ whole → empty ≡ [] → start ≡ empty ++ F x → line ≡ start ++ 10 ∷ [] → new ≡ out ++ line → new ++ lines (map F rest) ≡ whole
+line_moved F x rest empty start line out new whole h e p q r =
+    let full : line ≡ F x ++ 10 ∷ [] = q ∙ ap (λ z. z ++ 10 ∷ []) (p ∙ ap (λ z. z ++ F x) e) in
+    ap (λ z. z ++ lines (map F rest)) (r ∙ ap (λ z. out ++ z) full)
+    ∙ append_assoc out (F x ++ 10 ∷ []) (lines (map F rest))
+    ∙ ap (λ z. out ++ z) (append_assoc (F x) (10 ∷ []) (lines (map F rest))) ∙ h

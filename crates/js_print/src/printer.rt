@@ -24,17 +24,23 @@ pub fn print_program(alloc: Global, program: Program) -> Result<String, AllocErr
     ensures spells { IfOk result (λ text. IsPrinted (program_term program) (string_bytes text)) }
 {
     let mut out = String::new(alloc);
-    print_lines(&mut out, program.body)?;
+    print_lines(alloc, &mut out, program.body)?;
     Ok(out)
 }
 
-/// Frees each statement as soon as it is written, while it is at hand.
-fn print_lines(out: &mut String, items: Items<Statement>) -> Result<(), AllocError>
+/// The room of a line. A piece of memory of more than a kibibyte has the allocator join what was freed before it.
+const LINE: usize = 2048;
+
+/// Frees each statement as soon as it is written, while it is at hand. Each line has room of its own, so that the
+/// allocator joins the pieces of one statement at the next, and not all of them, out of the caches, at the end.
+fn print_lines(alloc: Global, out: &mut String, items: Items<Statement>) -> Result<(), AllocError>
     ensures { OnOk result (string_bytes out.new ≡ string_bytes out.old ++ lines (map (λ s. printed (wrapped (statement_term s))) items)) }
 {
     for one in items.into_vec() {
-        print_statement(out, &one)?;
-        out.push_str("\n")?;
+        let mut line = String::with_capacity(alloc, LINE)?;
+        print_statement(&mut line, &one)?;
+        line.push_str("\n")?;
+        out.push_str(line.as_str())?;
     }
     Ok(())
 }

@@ -19,7 +19,7 @@ loop-one-preserved c =
     let steps = c.in-Some.ensures.steps in
     record {
       len = omega (arith, steps.1, c.loop-one.invariant.len, ap length steps.0);
-      text = line_moved (λ s. printed (wrapped (statement_term s))) c.in-Some.one (into_iter_items c.next.new.self) (string_bytes c.loop-one.out) (string_bytes c.print_statement.new.out) (string_bytes c.push_str.new.self) _ (rw steps.0 at c.loop-one.invariant.text) c.in_ok-print_statement.ensures c.in_ok-push_str.ensures.bytes;
+      text = line_moved (λ s. printed (wrapped (statement_term s))) c.in-Some.one (into_iter_items c.next.new.self) _ (string_bytes c.print_statement.new.out) (string_bytes c.push_str.new.self) (string_bytes c.loop-one.out) (string_bytes c.push_str-in-loop-one.new.self) _ (rw steps.0 at c.loop-one.invariant.text) c.in_ok-line.ensures.bytes c.in_ok-print_statement.ensures c.in_ok-push_str.ensures.bytes (rw c.as_str.ensures.value at c.in_ok-push_str-2.ensures.bytes);
     }
 
 pub returns : goal.returns
