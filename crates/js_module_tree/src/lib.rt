@@ -11,4 +11,4 @@ mod statement_list;
 mod statement_node;
 
 pub use ast_kind::AstKind;
-pub use module_tree::is_module_tree;
+pub use module_tree::ModuleTree;

@@ -9,11 +9,18 @@ use crate::statement_node::StatementNode;
 use js_tree::Program;
 use node_texts::LexicalGrammar;
 
-/// Whether the program is a module tree: printable, and without the early errors that the rules of `js_syntax` name.
-/// Takes no memory; it goes down the tree by calling itself.
-pub fn is_module_tree(program: &Program) -> bool
-    ensures { result ≡ is_module_tree (program_term program.now) }
-{
-    let whole = AstKind::StatementNode(StatementNode::Program(program));
-    js_modules::is_module_tree::<LexicalGrammar, _>(whole)
+/// A tree that can be asked whether it is a module tree.
+pub trait ModuleTree {
+    /// Whether the tree is printable, and has none of the early errors that the rules of `js_syntax` name.
+    /// Takes no memory; it goes down the tree by calling itself.
+    fn is_module_tree(&self) -> bool;
+}
+
+impl ModuleTree for Program {
+    fn is_module_tree(&self) -> bool
+        ensures { result ≡ is_module_tree (program_term self.now) }
+    {
+        let whole = AstKind::StatementNode(StatementNode::Program(self));
+        js_modules::is_module_tree::<LexicalGrammar, _>(whole)
+    }
 }

@@ -1,5 +1,5 @@
 use crate::drops::nested;
-use js_module_tree::is_module_tree;
+use js_module_tree::ModuleTree;
 use js_tree::{
     Boxed, BreakStatement, DebuggerStatement, ExpressionStatement, Ident, Items, LabelIdentifier,
     LabeledStatement, Program, ReturnStatement, Span, Statement,
@@ -51,12 +51,12 @@ fn labeled(alloc: Global, name: &str, target: &str) -> Result<Statement, AllocEr
 fn a_statement_stands_where_the_grammar_has_it(rt: HostRuntime) -> Result<(), Fail> {
     let alloc = rt.alloc();
     let debugger = Statement::DebuggerStatement(DebuggerStatement { span: NOWHERE });
-    assert_eq!(rt; is_module_tree(&module_of(alloc, debugger)?), true);
+    assert_eq!(rt; module_of(alloc, debugger)?.is_module_tree(), true);
     let returned = Statement::ReturnStatement(ReturnStatement {
         span: NOWHERE,
         argument: None,
     });
-    assert_eq!(rt; is_module_tree(&module_of(alloc, returned)?), false);
+    assert_eq!(rt; module_of(alloc, returned)?.is_module_tree(), false);
     Ok(())
 }
 
@@ -64,11 +64,11 @@ fn a_statement_stands_where_the_grammar_has_it(rt: HostRuntime) -> Result<(), Fa
 fn a_break_names_a_label_around_it(rt: HostRuntime) -> Result<(), Fail> {
     let alloc = rt.alloc();
     let alone = module_of(alloc, break_to(alloc, "a")?)?;
-    assert_eq!(rt; is_module_tree(&alone), false);
+    assert_eq!(rt; alone.is_module_tree(), false);
     let inside = module_of(alloc, labeled(alloc, "a", "a")?)?;
-    assert_eq!(rt; is_module_tree(&inside), true);
+    assert_eq!(rt; inside.is_module_tree(), true);
     let other = module_of(alloc, labeled(alloc, "b", "a")?)?;
-    assert_eq!(rt; is_module_tree(&other), false);
+    assert_eq!(rt; other.is_module_tree(), false);
     Ok(())
 }
 
@@ -80,6 +80,6 @@ fn a_deep_module_is_seen_whole(rt: HostRuntime) -> Result<(), Fail> {
         span: NOWHERE,
         expression,
     });
-    assert_eq!(rt; is_module_tree(&module_of(alloc, statement)?), true);
+    assert_eq!(rt; module_of(alloc, statement)?.is_module_tree(), true);
     Ok(())
 }
