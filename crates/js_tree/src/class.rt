@@ -1,9 +1,11 @@
-use crate::bag::{Bag, Waiting};
+use crate::bag::Bag;
 use crate::expression::{Expression, PropertyKey};
 use crate::function::Function;
 use crate::statement::Statement;
 use js_items::{Boxed, Items};
 use js_leaves::{BindingIdentifier, ClassKind, MethodDefinitionKind, ScopeId, Span};
+use std::alloc::Global;
+use waiting_nodes::{Dismantle, Waiting, dismantle_all};
 
 /// `static {body}`.
 #[derive(Drop)]
@@ -96,8 +98,8 @@ impl<E> PropertyDefinition<E> {
     }
 }
 
-impl ClassElement {
-    fn dismantle(self, bag: &mut Bag) {
+impl Dismantle<Bag> for ClassElement {
+    fn dismantle(self, _alloc: Global, bag: &mut Bag) {
         match self {
             ClassElement::StaticBlock(n) => n.dismantle(&mut bag.statements),
             ClassElement::MethodDefinition {
@@ -116,14 +118,6 @@ impl ClassElement {
     }
 }
 
-fn dismantle_elements(parts: Items<ClassElement>, bag: &mut Bag) {
-    let mut parts = parts;
-    while let Some(part) = parts.pop() {
-        part.dismantle(bag);
-    }
-    parts.destroy_empty();
-}
-
 impl Class {
     pub(crate) fn dismantle(self, bag: &mut Bag) {
         let Class {
@@ -137,6 +131,6 @@ impl Class {
         drop(id);
         bag.expressions.add_optional(super_class);
         let ClassBody { span: _, body } = body;
-        dismantle_elements(body, bag);
+        dismantle_all(body, bag);
     }
 }

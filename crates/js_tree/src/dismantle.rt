@@ -1,6 +1,5 @@
 //! Nodes that hold expressions alone, taken apart.
 
-use crate::bag::Waiting;
 use crate::expression::{
     Argument, ArrayExpression, ArrayExpressionElement, AwaitExpression, BinaryExpression,
     CallExpression, ChainElement, ChainExpression, ComputedMemberExpression, ConditionalExpression,
@@ -9,7 +8,8 @@ use crate::expression::{
     PropertyKey, SequenceExpression, SpreadElement, StaticMemberExpression,
     TaggedTemplateExpression, TemplateLiteral, UnaryExpression, UpdateExpression, YieldExpression,
 };
-use js_items::Items;
+use std::alloc::Global;
+use waiting_nodes::{Dismantle, Waiting, dismantle_all};
 
 impl<E> TemplateLiteral<E> {
     pub(crate) fn dismantle(self, waiting: &mut Waiting<E>) {
@@ -65,16 +65,17 @@ impl<E> SpreadElement<E> {
 impl<E> ArrayExpression<E> {
     pub(crate) fn dismantle(self, waiting: &mut Waiting<E>) {
         let ArrayExpression { span: _, elements } = self;
-        let alloc = elements.allocator();
-        let mut parts = elements;
-        while let Some(part) = parts.pop() {
-            match part {
-                ArrayExpressionElement::Elision(n) => drop(n),
-                ArrayExpressionElement::SpreadElement(n) => n.dismantle(waiting),
-                ArrayExpressionElement::Expression(n) => waiting.add(alloc, n),
-            }
+        dismantle_all(elements, waiting);
+    }
+}
+
+impl<E> Dismantle<Waiting<E>> for ArrayExpressionElement<E> {
+    fn dismantle(self, alloc: Global, waiting: &mut Waiting<E>) {
+        match self {
+            ArrayExpressionElement::Elision(n) => drop(n),
+            ArrayExpressionElement::SpreadElement(n) => n.dismantle(waiting),
+            ArrayExpressionElement::Expression(n) => waiting.add(alloc, n),
         }
-        parts.destroy_empty();
     }
 }
 
@@ -110,14 +111,16 @@ impl<E> ObjectExpression<E> {
             span: _,
             properties,
         } = self;
-        let mut parts = properties;
-        while let Some(part) = parts.pop() {
-            match part {
-                ObjectPropertyKind::ObjectProperty(n) => n.dismantle(waiting),
-                ObjectPropertyKind::SpreadProperty(n) => n.dismantle(waiting),
-            }
+        dismantle_all(properties, waiting);
+    }
+}
+
+impl<E> Dismantle<Waiting<E>> for ObjectPropertyKind<E> {
+    fn dismantle(self, _alloc: Global, waiting: &mut Waiting<E>) {
+        match self {
+            ObjectPropertyKind::ObjectProperty(n) => n.dismantle(waiting),
+            ObjectPropertyKind::SpreadProperty(n) => n.dismantle(waiting),
         }
-        parts.destroy_empty();
     }
 }
 
@@ -214,16 +217,13 @@ impl<E> UpdateExpression<E> {
     }
 }
 
-fn dismantle_arguments<E>(parts: Items<Argument<E>>, waiting: &mut Waiting<E>) {
-    let alloc = parts.allocator();
-    let mut parts = parts;
-    while let Some(part) = parts.pop() {
-        match part {
+impl<E> Dismantle<Waiting<E>> for Argument<E> {
+    fn dismantle(self, alloc: Global, waiting: &mut Waiting<E>) {
+        match self {
             Argument::SpreadElement(n) => n.dismantle(waiting),
             Argument::Expression(n) => waiting.add(alloc, n),
         }
     }
-    parts.destroy_empty();
 }
 
 impl<E> CallExpression<E> {
@@ -235,7 +235,7 @@ impl<E> CallExpression<E> {
             optional: _,
         } = self;
         waiting.add_boxed(callee);
-        dismantle_arguments(arguments, waiting);
+        dismantle_all(arguments, waiting);
     }
 }
 
@@ -247,7 +247,7 @@ impl<E> NewExpression<E> {
             arguments,
         } = self;
         waiting.add_boxed(callee);
-        dismantle_arguments(arguments, waiting);
+        dismantle_all(arguments, waiting);
     }
 }
 

@@ -1,9 +1,11 @@
-use crate::bag::{Bag, Waiting};
+use crate::bag::Bag;
 use crate::expression::Expression;
 use crate::pattern::{BindingPattern, BindingRestElement};
 use crate::statement::Statement;
 use js_items::{Boxed, Items};
 use js_leaves::{BindingIdentifier, Directive, FunctionKind, ScopeId, Span};
+use std::alloc::Global;
+use waiting_nodes::{Dismantle, Waiting, dismantle_all};
 
 /// `{directives statements}` of a function.
 #[derive(Drop)]
@@ -79,7 +81,7 @@ impl FormalParameters {
             items,
             rest,
         } = self;
-        dismantle_parameters(items, bag);
+        dismantle_all(items, bag);
         if let Some(rest) = rest {
             let FormalParameterRest { span: _, rest } = rest;
             rest.dismantle(&mut bag.patterns);
@@ -87,19 +89,16 @@ impl FormalParameters {
     }
 }
 
-fn dismantle_parameters(parts: Items<FormalParameter>, bag: &mut Bag) {
-    let alloc = parts.allocator();
-    let mut parts = parts;
-    while let Some(part) = parts.pop() {
+impl Dismantle<Bag> for FormalParameter {
+    fn dismantle(self, alloc: Global, bag: &mut Bag) {
         let FormalParameter {
             span: _,
             pattern,
             initializer,
-        } = part;
+        } = self;
         bag.patterns.add(alloc, pattern);
         bag.expressions.add_optional(initializer);
     }
-    parts.destroy_empty();
 }
 
 impl Function {

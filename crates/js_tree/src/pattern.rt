@@ -1,11 +1,9 @@
-ghost use Rattle.js_tree.specs.BoundNames.{pattern_names, properties_names, elements_names};
-ghost use Rattle.std.specs.Fn.{CalledAt};
-ghost use Rattle.std.specs.List.{FoldsTo};
-
-use crate::bag::{Bag, Waiting};
+use crate::bag::Bag;
 use crate::expression::{Expression, PropertyKey};
 use js_items::{Boxed, Items};
 use js_leaves::{BindingIdentifier, Span};
+use std::alloc::Global;
+use waiting_nodes::{Dismantle, Waiting, dismantle_all};
 
 /// `...argument` in a pattern or a list of parameters.
 #[derive(Drop)]
@@ -84,7 +82,7 @@ impl BindingPattern {
                 properties,
                 rest,
             } => {
-                dismantle_properties(properties, bag);
+                dismantle_all(properties, bag);
                 if let Some(rest) = rest {
                     rest.dismantle(&mut bag.patterns);
                 }
@@ -123,78 +121,16 @@ impl<P> ArrayPattern<P> {
     }
 }
 
-fn dismantle_properties(parts: Items<BindingProperty>, bag: &mut Bag) {
-    let alloc = parts.allocator();
-    let mut parts = parts;
-    while let Some(part) = parts.pop() {
+impl Dismantle<Bag> for BindingProperty {
+    fn dismantle(self, alloc: Global, bag: &mut Bag) {
         let BindingProperty {
             span: _,
             key,
             value,
             computed: _,
             shorthand: _,
-        } = part;
+        } = self;
         key.dismantle(&mut bag.expressions);
         bag.patterns.add(alloc, value);
-    }
-    parts.destroy_empty();
-}
-
-impl BindingPattern {
-    /// Calls `f` on each name that is bound, in text order (BoundNames).
-    #[cycle(names)]
-    pub fn bound_names<F: FnMut(&BindingIdentifier)>(&self, f: &mut F)
-        requires { F.IsAlwaysCallable f.old }
-        ensures called { FoldsTo (λ p n q. CalledAt F.FnMut p n tt q) f.old (pattern_names self.now) f.new }
-        ensures callable { F.IsAlwaysCallable f.new }
-    {
-        match self {
-            BindingPattern::BindingIdentifier(n) => f(n),
-            BindingPattern::ObjectPattern {
-                span: _,
-                properties,
-                rest,
-            } => {
-                each_property(properties.as_slice(), f);
-                if let Some(rest) = rest {
-                    rest.argument.get().bound_names(f);
-                }
-            }
-            BindingPattern::ArrayPattern(n) => {
-                each_element(n.elements.as_slice(), f);
-                if let Some(rest) = &n.rest {
-                    rest.argument.get().bound_names(f);
-                }
-            }
-            BindingPattern::AssignmentPattern {
-                span: _,
-                left,
-                right: _,
-            } => left.get().bound_names(f),
-        }
-    }
-}
-
-#[cycle(names)]
-fn each_property<F: FnMut(&BindingIdentifier)>(properties: &[BindingProperty], f: &mut F)
-    requires { F.IsAlwaysCallable f.old }
-    ensures called { FoldsTo (λ p n q. CalledAt F.FnMut p n tt q) f.old (properties_names properties.now) f.new }
-    ensures callable { F.IsAlwaysCallable f.new }
-{
-    for property in properties {
-        property.value.bound_names(f);
-    }
-}
-
-#[cycle(names)]
-fn each_element<F: FnMut(&BindingIdentifier)>(elements: &[Option<BindingPattern>], f: &mut F)
-    requires { F.IsAlwaysCallable f.old }
-    ensures called { FoldsTo (λ p n q. CalledAt F.FnMut p n tt q) f.old (elements_names elements.now) f.new }
-    ensures callable { F.IsAlwaysCallable f.new }
-{
-    for element in elements {
-        if let Some(pattern) = element {
-            pattern.bound_names(f);
-        }
     }
 }

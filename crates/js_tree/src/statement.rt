@@ -1,8 +1,4 @@
-ghost use Rattle.js_tree.specs.BoundNames.{variables_names};
-ghost use Rattle.std.specs.Fn.{CalledAt};
-ghost use Rattle.std.specs.List.{FoldsTo};
-
-use crate::bag::{Bag, Waiting};
+use crate::bag::Bag;
 use crate::class::Class;
 use crate::expression::Expression;
 use crate::function::Function;
@@ -11,10 +7,12 @@ use crate::pattern::BindingPattern;
 use crate::target::AssignmentTarget;
 use js_items::{Boxed, Items};
 use js_leaves::{
-    BindingIdentifier, BreakStatement, ContinueStatement, DebuggerStatement, EmptyStatement,
-    ExportAllDeclaration, ExportFromDeclaration, ExportNamedDeclaration, ImportDeclaration,
-    LabelIdentifier, ScopeId, Span, VariableDeclarationKind,
+    BreakStatement, ContinueStatement, DebuggerStatement, EmptyStatement, ExportAllDeclaration,
+    ExportFromDeclaration, ExportNamedDeclaration, ImportDeclaration, LabelIdentifier, ScopeId,
+    Span, VariableDeclarationKind,
 };
+use std::alloc::Global;
+use waiting_nodes::{Dismantle, Waiting, dismantle_all};
 
 /// `{body}`.
 #[derive(Drop)]
@@ -337,7 +335,7 @@ impl Statement {
                 scope_id: _,
             } => {
                 bag.expressions.add_boxed(discriminant);
-                dismantle_cases(cases, bag);
+                dismantle_all(cases, bag);
             }
             Statement::ThrowStatement(n) => n.dismantle(&mut bag.expressions),
             Statement::TryStatement {
@@ -398,18 +396,16 @@ impl ForStatementInit {
     }
 }
 
-fn dismantle_cases(parts: Items<SwitchCase>, bag: &mut Bag) {
-    let mut parts = parts;
-    while let Some(part) = parts.pop() {
+impl Dismantle<Bag> for SwitchCase {
+    fn dismantle(self, _alloc: Global, bag: &mut Bag) {
         let SwitchCase {
             span: _,
             test,
             consequent,
-        } = part;
+        } = self;
         bag.expressions.add_optional(test);
         bag.statements.add_all(consequent);
     }
-    parts.destroy_empty();
 }
 
 impl CatchClause {
@@ -435,19 +431,16 @@ impl VariableDeclaration {
             kind: _,
             declarations,
         } = self;
-        dismantle_declarators(declarations, bag);
+        dismantle_all(declarations, bag);
     }
 }
 
-fn dismantle_declarators(parts: Items<VariableDeclarator>, bag: &mut Bag) {
-    let alloc = parts.allocator();
-    let mut parts = parts;
-    while let Some(part) = parts.pop() {
-        let VariableDeclarator { span: _, id, init } = part;
+impl Dismantle<Bag> for VariableDeclarator {
+    fn dismantle(self, alloc: Global, bag: &mut Bag) {
+        let VariableDeclarator { span: _, id, init } = self;
         bag.patterns.add(alloc, id);
         bag.expressions.add_optional(init);
     }
-    parts.destroy_empty();
 }
 
 impl<S> BlockStatement<S> {
@@ -494,18 +487,5 @@ impl<E> ThrowStatement<E> {
     fn dismantle(self, expressions: &mut Waiting<E>) {
         let ThrowStatement { span: _, argument } = self;
         expressions.add_boxed(argument);
-    }
-}
-
-impl VariableDeclaration {
-    /// Calls `f` on each name that is declared, in text order (BoundNames).
-    pub fn bound_names<F: FnMut(&BindingIdentifier)>(&self, f: &mut F)
-        requires { F.IsAlwaysCallable f.old }
-        ensures called { FoldsTo (λ p n q. CalledAt F.FnMut p n tt q) f.old (variables_names self.now) f.new }
-        ensures callable { F.IsAlwaysCallable f.new }
-    {
-        for declarator in self.declarations.as_slice() {
-            declarator.id.bound_names(f);
-        }
     }
 }

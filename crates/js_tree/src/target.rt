@@ -1,10 +1,12 @@
-use crate::bag::{Bag, Waiting};
+use crate::bag::Bag;
 use crate::expression::{
     ComputedMemberExpression, Expression, PrivateFieldExpression, PropertyKey,
     StaticMemberExpression,
 };
 use js_items::{Boxed, Items};
 use js_leaves::{IdentifierReference, Span};
+use std::alloc::Global;
+use waiting_nodes::{Dismantle, Waiting, dismantle_all};
 
 /// A name or a member that is assigned to.
 #[derive(Drop)]
@@ -100,7 +102,7 @@ impl AssignmentTarget {
                 properties,
                 rest,
             } => {
-                dismantle_properties(properties, bag);
+                dismantle_all(properties, bag);
                 if let Some(rest) = rest {
                     rest.dismantle(&mut bag.targets);
                 }
@@ -149,19 +151,16 @@ impl<T> ArrayAssignmentTarget<T> {
     }
 }
 
-fn dismantle_properties(parts: Items<AssignmentTargetProperty>, bag: &mut Bag) {
-    let alloc = parts.allocator();
-    let mut parts = parts;
-    while let Some(part) = parts.pop() {
+impl Dismantle<Bag> for AssignmentTargetProperty {
+    fn dismantle(self, alloc: Global, bag: &mut Bag) {
         let AssignmentTargetProperty {
             span: _,
             key,
             value,
             computed: _,
             shorthand: _,
-        } = part;
+        } = self;
         key.dismantle(&mut bag.expressions);
         bag.targets.add(alloc, value);
     }
-    parts.destroy_empty();
 }

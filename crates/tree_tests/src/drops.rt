@@ -1,3 +1,4 @@
+use bound_names::BoundNames;
 use js_tree::{
     ArrayPattern, BindingIdentifier, BindingPattern, BindingProperty, BindingRestElement, Boxed,
     EmptyStatement, Expression, Ident, IdentifierName, Items, NullLiteral, ParenthesizedExpression,
