@@ -1,6 +1,8 @@
 -- The context of the rule on jumps, as the code holds it, and the rule at any context and by groups of kinds.
 use Rattle.std.specs.Prelude.{List, [], ◌∷◌, Bool, true, ◌||◌}
-use Rattle.js_term.specs.Term.{Kind, Term, Terms}
+use Rattle.js_term.specs.Term.{Term, Terms}
+use Rattle.js_term.specs.declared.kind.Kind.{Kind}
+use Rattle.js_term.specs.declared.kind.Kind.TheVariants as Kind
 use Rattle.js_term.specs.Kinds.{is_among}
 use Rattle.js_term.specs.Scope.{kid}
 use Rattle.js_syntax.specs.Everywhere.{everywhere_kids, at_each_node, alike}

@@ -1,9 +1,8 @@
 ghost use Rattle.std.specs.Prelude.{◌≡◌};
 ghost use Rattle.js_term.specs.Kinds.{is_kind, is_among};
-ghost use Rattle.js_term.specs.Term.{LabeledStatement};
+ghost use Rattle.js_term.specs.declared.kind.Kind.TheVariants.{LabeledStatement};
 ghost use Rattle.js_syntax.specs.Parts.{parts_of, texts_of};
 ghost use Rattle.js_syntax.specs.ModuleTree.{is_loop, allows_jump, no_jumps};
-ghost use Rattle.js_rules.specs.KindOf.{kind_of};
 ghost use Rattle.js_modules.specs.JumpsSeen.{jumps_of, iteration_statements, breakable_statements, roots_of_jumps, in_statement};
 
 use crate::enclosing::{EnclosingLabel, is_label, is_loop_label};
@@ -29,14 +28,14 @@ pub fn no_jumps<'a, V: View>() -> Jumps<'a, V>
 }
 
 pub fn is_labelled(kind: Kind) -> bool
-    ensures { result ≡ is_kind (kind_of kind) LabeledStatement }
+    ensures { result ≡ is_kind kind LabeledStatement }
 {
     matches!(kind, Kind::LabeledStatement)
 }
 
 /// Whether no jump leaves a node of the kind.
 pub fn is_root_of_jumps(kind: Kind) -> bool
-    ensures { result ≡ is_among (kind_of kind) roots_of_jumps }
+    ensures { result ≡ is_among kind roots_of_jumps }
 {
     matches!(
         kind,
@@ -48,7 +47,7 @@ pub fn is_root_of_jumps(kind: Kind) -> bool
 }
 
 fn is_iteration_statement(kind: Kind) -> bool
-    ensures { result ≡ is_among (kind_of kind) iteration_statements }
+    ensures { result ≡ is_among kind iteration_statements }
 {
     matches!(
         kind,
@@ -61,7 +60,7 @@ fn is_iteration_statement(kind: Kind) -> bool
 }
 
 fn is_breakable_statement(kind: Kind) -> bool
-    ensures { result ≡ is_among (kind_of kind) breakable_statements }
+    ensures { result ≡ is_among kind breakable_statements }
 {
     matches!(kind, Kind::SwitchStatement) || is_iteration_statement(kind)
 }
@@ -83,7 +82,7 @@ pub fn is_loop<V: View>(statement: V) -> bool
 
 /// What holds inside a node of the kind, which is no labelled statement and no root of jumps.
 pub fn in_statement<'a, V: View>(jumps: Jumps<'a, V>, kind: Kind) -> Jumps<'a, V>
-    ensures { jumps_of V.term result ≡ in_statement (jumps_of V.term jumps.entry) (kind_of kind) }
+    ensures { jumps_of V.term result ≡ in_statement (jumps_of V.term jumps.entry) kind }
 {
     Jumps {
         labels: jumps.labels,
@@ -94,7 +93,7 @@ pub fn in_statement<'a, V: View>(jumps: Jumps<'a, V>, kind: Kind) -> Jumps<'a, V
 
 /// Whether the node, if it is a jump or a labelled statement, may stand at the place.
 pub fn allows_jump<V: View>(jumps: Jumps<V>, kind: Kind, view: &V) -> bool
-    ensures { result ≡ allows_jump (jumps_of V.term jumps.entry) (kind_of kind) (texts_of (V.term view.now)) (parts_of (V.term view.now)) }
+    ensures { result ≡ allows_jump (jumps_of V.term jumps.entry) kind (texts_of (V.term view.now)) (parts_of (V.term view.now)) }
 {
     let label = view.part(0);
     match kind {

@@ -3,7 +3,8 @@ use Rattle.std.proofs.Common.{◌≡◌, refl, sym, ◌∙◌, ap, subst, ℕ, �
 use Rattle.std.proofs.lemmas.List.{append-nil}
 use Rattle.std.proofs.lemmas.Bool.{ltb-false, le-ltb}
 use Rattle.std.specs.Prelude.{codes}
-use Rattle.js_term.specs.Term.{Text, is_text, Kind, Term, absent, list, node, Terms, none, more, one, two}
+use Rattle.js_term.specs.Term.{Text, is_text, Term, absent, list, node, Terms, none, more, one, two}
+use Rattle.js_term.specs.declared.kind.Kind.TheVariants as Kind
 use Rattle.js_term.specs.Lexeme.{whole, is_word, is_decimal, is_reserved, not_next, goes_on, goes_on_number, is_start, is_part, is_digit, between}
 use Rattle.js_term.specs.Node.{name_of, binding_of, string_of, call_of, member_of, sequence_of, array_of}
 use Rattle.js_term.specs.Spells.{level, Stands, identifier, boolean, numeric, string_literal, call, member, await_expression, array, Listed, last, and, Group, no_items, some_items}

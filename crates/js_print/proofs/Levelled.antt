@@ -2,7 +2,8 @@
 use Rattle.std.proofs.Common.{◌≡◌, refl, ◌∙◌, ap, ℕ, ◌≤◌, Bool, true, false, nat_lt, nat_eq, cond, not, ◌&&◌, ◌||◌, arith, List, [], ◌∷◌}
 use Rattle.std.proofs.lemmas.Bool.{le-ltb}
 use Rattle.std.specs.Prelude.{codes, option_map}
-use Rattle.js_term.specs.Term.{Text, Kind, Term, node, Terms, more, two, maybe, flag}
+use Rattle.js_term.specs.Term.{Text, Term, node, Terms, more, two, maybe, flag}
+use Rattle.js_term.specs.declared.kind.Kind.TheVariants as Kind
 use Rattle.js_term.specs.Spells.{level, is_string_literal}
 use Rattle.small_tree.specs.TermOf.{expression_term, statement_term, binding_term, parameters_term, body_term, function_word}
 use Rattle.small_tree.proofs.Levels.{e_BooleanLiteral, e_NumericLiteral, e_StringLiteral, e_Identifier, e_ArrayExpression, e_AwaitExpression, e_CallExpression, e_FunctionExpression, e_ObjectExpression, e_ParenthesizedExpression, e_SequenceExpression, e_StaticMemberExpression, function_parts}

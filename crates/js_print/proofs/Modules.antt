@@ -1,7 +1,8 @@
 -- What stands for bodies, properties, statements and modules.
 use Rattle.std.proofs.Common.{◌≡◌, refl, sym, ◌∙◌, ap, subst, ℕ, List, [], ◌∷◌, ◌++◌, Bool, true, false, ◌&&◌, ◌||◌, lit≤, append_assoc}
 use Rattle.std.specs.Prelude.{codes}
-use Rattle.js_term.specs.Term.{Text, is_text, Kind, Term, absent, list, node, Terms, none, more, two, all}
+use Rattle.js_term.specs.Term.{Text, is_text, Term, absent, list, node, Terms, none, more, two, all}
+use Rattle.js_term.specs.declared.kind.Kind.TheVariants as Kind
 use Rattle.js_term.specs.Lexeme.{whole, is_word, is_one_of, not_next, goes_on_number}
 use Rattle.js_term.specs.Node.{name_of, property_of, method_property_of, parameters_of, body_of}
 use Rattle.js_term.specs.Spells.{Parameters, Property, init, method, Body, body, Statements, no_statements, next_statement}

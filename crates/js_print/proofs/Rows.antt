@@ -2,7 +2,8 @@
 use Rattle.std.proofs.Common.{◌≡◌, refl, sym, ◌∙◌, ap, ℕ, ◌+◌, ◌<◌, arith, List, [], ◌∷◌, ◌++◌, length, take, get_or, map, Bool, true, false, ◌||◌, append_assoc, add-one, take-suc, ◌≤◌}
 use Rattle.std.proofs.lemmas.List.{append-nil, map-append, length-take-le, length-map}
 use Rattle.std.specs.Prelude.{codes}
-use Rattle.js_term.specs.Term.{Text, Kind, Term, node, Terms, all}
+use Rattle.js_term.specs.Term.{Text, Term, node, Terms, all}
+use Rattle.js_term.specs.declared.kind.Kind.{Kind}
 use Rattle.js_term.specs.Node.{truth}
 use Rattle.small_tree.specs.TermOf.{expression_term, statement_term, function_term, property_term}
 use Rattle.small_tree.proofs.Levels.{expression_node, statement_node, e_BooleanLiteral, e_NumericLiteral, e_StringLiteral, e_Identifier, e_ArrayExpression, e_AwaitExpression, e_CallExpression, e_FunctionExpression, e_ObjectExpression, e_ParenthesizedExpression, e_SequenceExpression, e_StaticMemberExpression}

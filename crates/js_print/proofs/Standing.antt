@@ -2,7 +2,9 @@
 use Rattle.std.proofs.Common.{◌≡◌, refl, sym, ap, subst, ℕ, ◌≤◌, List, [], ◌∷◌, ◌++◌, Bool, true, false, ◌&&◌, ◌||◌, not, cond, nat_eq, append_assoc}
 use Rattle.std.proofs.lemmas.Bool.{ltb-false}
 use Rattle.std.specs.Cmp.Lexicographic.{bytes_decides}
-use Rattle.js_term.specs.Term.{Text, is_text, Kind, Term, absent, list, node, Terms, none, more, all}
+use Rattle.js_term.specs.Term.{Text, is_text, Term, absent, list, node, Terms, none, more, all}
+use Rattle.js_term.specs.declared.kind.Kind.{Kind}
+use Rattle.js_term.specs.declared.kind.Kind.TheVariants as Kind
 use Rattle.js_term.specs.Lexeme.{whole, not_next, goes_on, goes_on_number, is_blank, is_line_end, same_line}
 use Rattle.js_term.specs.Node.{parenthesized_of}
 use Rattle.js_term.specs.Spells.{level, joined, Stands, parenthesized, Listed, Statement, Declaration}

@@ -1,7 +1,8 @@
 -- The text of each statement, by the texts of its parts.
 use Rattle.std.proofs.Common.{◌≡◌, refl, sym, ◌∙◌, ap, List, [], ◌∷◌, ◌++◌, map, Option, None, Some, Bool, false, ◌||◌, append_assoc}
 use Rattle.std.specs.Prelude.{codes, option_map}
-use Rattle.js_term.specs.Term.{Text, Kind, Term, absent, list, node, more, one, two, all, maybe, flag}
+use Rattle.js_term.specs.Term.{Text, Term, absent, list, node, more, one, two, all, maybe, flag}
+use Rattle.js_term.specs.declared.kind.Kind.TheVariants as Kind
 use Rattle.js_term.specs.Spells.{is_string_literal}
 use Rattle.small_tree.specs.TermOf.{expression_term, declaration_term, statement_term, function_term, declarator_term, parameter_term, parameters_term, binding_term, pattern_term, body_term, function_word, variable_word, specifier_term, program_term}
 use Rattle.small_tree.proofs.Levels.{d_VariableDeclaration, d_FunctionDeclaration, s_ExpressionStatement, s_ReturnStatement, s_VariableDeclaration, s_FunctionDeclaration, s_ImportDeclaration, s_ExportDeclaration, function_parts, declarator_parts}

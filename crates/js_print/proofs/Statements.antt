@@ -2,7 +2,8 @@
 use Rattle.std.proofs.Common.{◌≡◌, refl, sym, ◌∙◌, ap, List, [], ◌∷◌, ◌++◌, true, false, append_assoc}
 use Rattle.std.proofs.lemmas.List.{append-nil}
 use Rattle.std.specs.Prelude.{codes}
-use Rattle.js_term.specs.Term.{Text, Kind, Term, absent, list, node, Terms, none, more, two}
+use Rattle.js_term.specs.Term.{Text, Term, absent, list, node, Terms, none, more, two}
+use Rattle.js_term.specs.declared.kind.Kind.TheVariants as Kind
 use Rattle.js_term.specs.Lexeme.{whole, is_word, is_reserved}
 use Rattle.js_term.specs.Node.{binding_of, named, parameters_of}
 use Rattle.js_term.specs.Spells.{Names, last_name, and_name, Parameters, no_names, names}

@@ -3,7 +3,9 @@ use Rattle.std.proofs.Common.{◌≡◌, refl, sym, ◌∙◌, ap, subst, List, 
 use Rattle.std.proofs.lemmas.List.{append-nil}
 use Rattle.std.proofs.lemmas.Bool.{ltb-false}
 use Rattle.std.specs.Prelude.{codes}
-use Rattle.js_term.specs.Term.{Text, is_text, Kind, Term, absent, list, node, Terms, none, more, one, two, all, strip}
+use Rattle.js_term.specs.Term.{Text, is_text, Term, absent, list, node, Terms, none, more, one, two, all, strip}
+use Rattle.js_term.specs.declared.kind.Kind.{Kind}
+use Rattle.js_term.specs.declared.kind.Kind.TheVariants as Kind
 use Rattle.js_term.specs.Lexeme.{whole, is_word, is_decimal, is_reserved, not_next, goes_on}
 use Rattle.js_term.specs.Node.{name_of, binding_of, string_of, object_of, function_of, const_of, return_of, statement_of, specifier_of, import_declaration_of, program_of, parenthesized_of}
 use Rattle.js_term.specs.Spells.{level, level_first, joined, is_string_literal, Stands, parenthesized, object, last, Properties, no_properties, last_property, and_property, Statement, declaration, returns, expression, Declaration, constant, function, Specifier, renamed, unrenamed, Specifiers, last_specifier, and_specifier, Item, statement, imports, exports, Items, no_more_items, next_item, Spells, spells}

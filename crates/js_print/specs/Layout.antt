@@ -1,6 +1,8 @@
 -- The layout of a printed module, and where parentheses are put.
 use Rattle.std.specs.Prelude.{◌≡◌, ℕ, zero, suc, List, [], ◌∷◌, ◌++◌, Bool, true, false, cond, not, ◌&&◌, ◌||◌, if◌then◌else◌, nat_eq, nat_lt, codes}
-use Rattle.js_term.specs.Term.{Text, is_text, Kind, Term, absent, list, node, Terms, none, more, first, head, strip}
+use Rattle.js_term.specs.Term.{Text, is_text, Term, absent, list, node, Terms, none, more, first, head, strip}
+use Rattle.js_term.specs.declared.kind.Kind.{Kind}
+use Rattle.js_term.specs.declared.kind.Kind.TheVariants as Kind
 use Rattle.js_term.specs.Lexeme.{whole}
 use Rattle.js_term.specs.Spells.{level, is_string_literal, Spells}
 use Rattle.js_term.specs.Node.{parenthesized_of}

@@ -1,7 +1,9 @@
 -- Every tree of small form is of the kinds that the reader reads.
 use Rattle.std.proofs.Common.{◌≡◌, true, false, List, refl}
 use Rattle.std.proofs.lemmas.Bool.{and_parts}
-use Rattle.js_term.specs.Term.{Kind, Term, absent, list, node, Terms, none, more}
+use Rattle.js_term.specs.Term.{Term, absent, list, node, Terms, none, more}
+use Rattle.js_term.specs.declared.kind.Kind.{Kind}
+use Rattle.js_term.specs.declared.kind.Kind.TheVariants as Kind
 use Rattle.js_term.specs.Form.{Sort, Place, one, nothing, many, some, single, several, empty, nowhere, takes_kind, takes_list, fits, fits_each, fits_places, item_place, first_place, later_places, places, allows, stands_small, is_small_name, is_small_binding, has_small_form, has_distinct_names, is_small}
 use Rattle.js_read.specs.Plain.{is_read_kind, is_plain, are_plain}
 

@@ -1,6 +1,7 @@
 -- The terms of the nodes that the reader makes.
 use Rattle.std.proofs.Common.{◌≡◌, ◌≢◌, ℕ, nat_le, false, List, [], ◌∷◌, ◌++◌, Some, map, refl, ◌∙◌}
-use Rattle.js_term.specs.Term.{Text, Term, all, two, node, Kind}
+use Rattle.js_term.specs.Term.{Text, Term, all, two, node}
+use Rattle.js_term.specs.declared.kind.Kind.TheVariants as Kind
 use Rattle.js_term.specs.Node.{call_of, member_of, const_of, binding_of, named, function_of, return_of, statement_of, import_declaration_of}
 use Rattle.small_tree.specs.TermOf.{expression_term, declaration_term, statement_term, declarator_term, parameter_term, specifier_term}
 use Rattle.small_tree.proofs.Levels.{e_CallExpression, e_StaticMemberExpression, d_VariableDeclaration, d_FunctionDeclaration, s_ReturnStatement, s_ExpressionStatement, s_ImportDeclaration, declarator_parts, function_parts}

@@ -1,6 +1,8 @@
 -- Trees of the kinds that the reader reads. Every small module is one.
 use Rattle.std.specs.Prelude.{Bool, true, false, ◌&&◌}
-use Rattle.js_term.specs.Term.{Kind, Term, absent, list, node, Terms, none, more}
+use Rattle.js_term.specs.Term.{Term, absent, list, node, Terms, none, more}
+use Rattle.js_term.specs.declared.kind.Kind.{Kind}
+use Rattle.js_term.specs.declared.kind.Kind.TheVariants as Kind
 
 abbrev pub is_read_kind : Kind → Bool
 is_read_kind Kind.BooleanLiteral = false

@@ -1,6 +1,7 @@
 -- The specifiers of an import, by where they stand.
 use Rattle.std.proofs.Common.{◌≡◌, refl, ap, ◌∙◌, ℕ, zero, suc, ◌+◌, ◌<◌, Bool, true, false, not, cond, arith}
-use Rattle.js_term.specs.Term.{ImportDefaultSpecifier, ImportSpecifier, Term, Terms, none, more}
+use Rattle.js_term.specs.Term.{Term, Terms, none, more}
+use Rattle.js_term.specs.declared.kind.Kind.TheVariants.{ImportDefaultSpecifier, ImportSpecifier}
 use Rattle.js_term.specs.Scope.{kid}
 use Rattle.js_syntax.specs.Parts.{count, each, is_node}
 use Rattle.js_syntax.specs.Printable.{are_plain_specifiers, behind_default, is_import_clause}

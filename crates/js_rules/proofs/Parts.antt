@@ -1,6 +1,7 @@
 -- The kids of a node from the one numbered n on, and a rule over them.
 use Rattle.std.proofs.Common.{◌≡◌, refl, ap, ◌∙◌, sym, ℕ, zero, suc, ◌+◌, ◌<◌, ◌≤◌, List, Bool, true, false, cond, ◌&&◌, arith, add-one}
-use Rattle.js_term.specs.Term.{Text, Kind, Term, absent, list, node, Terms, none, more}
+use Rattle.js_term.specs.Term.{Text, Term, absent, list, node, Terms, none, more}
+use Rattle.js_term.specs.declared.kind.Kind.{Kind}
 use Rattle.js_term.specs.Scope.{kid}
 use Rattle.js_syntax.specs.Everywhere.{everywhere, everywhere_each, everywhere_kids}
 use Rattle.js_syntax.specs.Parts.{count, count_if, each, parts_of}

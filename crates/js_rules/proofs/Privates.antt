@@ -1,6 +1,8 @@
 -- The rule on private names, by the form of what it is asked of.
 use Rattle.std.proofs.Common.{◌≡◌, refl, ap, ◌∙◌, sym, ℕ, ◌+◌, ◌<◌, List, ◌∷◌, Bool, true, false}
-use Rattle.js_term.specs.Term.{Text, Kind, Term, list, node, Terms}
+use Rattle.js_term.specs.Term.{Text, Term, list, node, Terms}
+use Rattle.js_term.specs.declared.kind.Kind.{Kind}
+use Rattle.js_term.specs.declared.kind.Kind.TheVariants as Kind
 use Rattle.js_term.specs.Kinds.{is_kind}
 use Rattle.js_term.specs.Scope.{kid}
 use Rattle.js_syntax.specs.Everywhere.{everywhere_kids}

@@ -1,4 +1,3 @@
-pub mod KindOf
 pub mod Seen
 pub mod Contexts
 pub mod SortsSeen

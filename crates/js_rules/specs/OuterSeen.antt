@@ -1,7 +1,9 @@
 -- The nodes round a place, as terms, and what they declare.
 use denote.Ref.{Bor}
 use Rattle.std.specs.Prelude.{List, [], ◌∷◌, Option, None, Some, Bool, true, ◌||◌}
-use Rattle.js_term.specs.Term.{Text, Kind, Term, Terms}
+use Rattle.js_term.specs.Term.{Text, Term, Terms}
+use Rattle.js_term.specs.declared.kind.Kind.{Kind}
+use Rattle.js_term.specs.declared.kind.Kind.TheVariants as Kind
 use Rattle.js_term.specs.Kinds.{is_kind}
 use Rattle.js_syntax.specs.Parts.{parts_of}
 use Rattle.js_syntax.specs.Everywhere.{everywhere_kids, at_each_node}

@@ -2,14 +2,13 @@
 use Rattle.std.specs.Prelude.{◌≡◌, ℕ, zero, suc, ◌+◌}
 use Rattle.js_term.specs.Term.{Term, absent, list, node, Terms, none, more}
 use Rattle.js_syntax.specs.Parts.{texts_of, parts_of}
-use Rattle.js_rules.specs.KindOf.{kind_of}
 use Rattle.js_rules.specs.declared.view.Form.{Form}
 use Rattle.js_rules.specs.declared.view.Form.TheVariants as form
 
 abbrev pub HasForm : Form → Term → Type 0
 HasForm form.Absent t = t ≡ absent
 HasForm form.List t = t ≡ list (parts_of t)
-HasForm (form.Node k) t = t ≡ node (kind_of k) (texts_of t) (parts_of t)
+HasForm (form.Node k) t = t ≡ node k (texts_of t) (parts_of t)
 
 abbrev mutual
   pub size : Term → ℕ

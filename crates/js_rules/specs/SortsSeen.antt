@@ -1,7 +1,6 @@
 -- Sorts and places, as the code holds them.
 use Rattle.std.specs.Prelude.{List, [], ◌∷◌}
 use Rattle.js_syntax.specs.Sorts.{Sort, Place}
-use Rattle.js_rules.specs.KindOf.{kind_of}
 use Rattle.js_rules.specs.declared.sort.Sort as code_sort
 use Rattle.js_rules.specs.declared.sort.Sort.TheVariants as sort
 use Rattle.js_rules.specs.declared.sort.Place as code_place
@@ -10,7 +9,7 @@ use Rattle.js_rules.specs.declared.places.PlaceList as code_places
 use Rattle.js_rules.specs.declared.places.PlaceList.TheVariants as places
 
 abbrev pub sort_seen : code_sort.Sort → Sort
-sort_seen (sort.Only k) = Sort.only (kind_of k)
+sort_seen (sort.Only k) = Sort.only k
 sort_seen sort.Statement = Sort.statement
 sort_seen sort.Body = Sort.body
 sort_seen sort.ForInit = Sort.for_init

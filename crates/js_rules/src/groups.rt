@@ -1,12 +1,11 @@
 ghost use Rattle.std.specs.Prelude.{◌≡◌};
 ghost use Rattle.js_term.specs.Kinds.{is_among};
 ghost use Rattle.js_syntax.specs.Sorts.{plain_statements, named_declarations, module_declarations, import_specifiers, class_elements, members, calls, literals, primaries, operations, is_expression, patterns, is_simple_target, target_patterns, is_target, plain_keys};
-ghost use Rattle.js_rules.specs.KindOf.{kind_of};
 
-use crate::kind::{Kind, is_kind};
+use js_term::{Kind, is_kind};
 
 pub fn is_plain_statement(kind: Kind) -> bool
-    ensures { result ≡ is_among (kind_of kind) plain_statements }
+    ensures { result ≡ is_among kind plain_statements }
 {
     matches!(
         kind,
@@ -32,13 +31,13 @@ pub fn is_plain_statement(kind: Kind) -> bool
 }
 
 pub fn is_named_declaration(kind: Kind) -> bool
-    ensures { result ≡ is_among (kind_of kind) named_declarations }
+    ensures { result ≡ is_among kind named_declarations }
 {
     matches!(kind, Kind::FunctionDeclaration | Kind::ClassDeclaration)
 }
 
 pub fn is_module_declaration(kind: Kind) -> bool
-    ensures { result ≡ is_among (kind_of kind) module_declarations }
+    ensures { result ≡ is_among kind module_declarations }
 {
     matches!(
         kind,
@@ -52,7 +51,7 @@ pub fn is_module_declaration(kind: Kind) -> bool
 }
 
 pub fn is_import_specifier(kind: Kind) -> bool
-    ensures { result ≡ is_among (kind_of kind) import_specifiers }
+    ensures { result ≡ is_among kind import_specifiers }
 {
     matches!(
         kind,
@@ -61,7 +60,7 @@ pub fn is_import_specifier(kind: Kind) -> bool
 }
 
 pub fn is_class_element(kind: Kind) -> bool
-    ensures { result ≡ is_among (kind_of kind) class_elements }
+    ensures { result ≡ is_among kind class_elements }
 {
     matches!(
         kind,
@@ -70,7 +69,7 @@ pub fn is_class_element(kind: Kind) -> bool
 }
 
 pub fn is_member(kind: Kind) -> bool
-    ensures { result ≡ is_among (kind_of kind) members }
+    ensures { result ≡ is_among kind members }
 {
     matches!(
         kind,
@@ -79,7 +78,7 @@ pub fn is_member(kind: Kind) -> bool
 }
 
 pub fn is_call(kind: Kind) -> bool
-    ensures { result ≡ is_among (kind_of kind) calls }
+    ensures { result ≡ is_among kind calls }
 {
     matches!(
         kind,
@@ -92,7 +91,7 @@ pub fn is_call(kind: Kind) -> bool
 }
 
 pub fn is_literal(kind: Kind) -> bool
-    ensures { result ≡ is_among (kind_of kind) literals }
+    ensures { result ≡ is_among kind literals }
 {
     matches!(
         kind,
@@ -107,7 +106,7 @@ pub fn is_literal(kind: Kind) -> bool
 }
 
 pub fn is_primary(kind: Kind) -> bool
-    ensures { result ≡ is_among (kind_of kind) primaries }
+    ensures { result ≡ is_among kind primaries }
 {
     matches!(
         kind,
@@ -124,7 +123,7 @@ pub fn is_primary(kind: Kind) -> bool
 }
 
 pub fn is_operation(kind: Kind) -> bool
-    ensures { result ≡ is_among (kind_of kind) operations }
+    ensures { result ≡ is_among kind operations }
 {
     matches!(
         kind,
@@ -143,13 +142,13 @@ pub fn is_operation(kind: Kind) -> bool
 }
 
 pub fn is_expression(kind: Kind) -> bool
-    ensures { result ≡ is_expression (kind_of kind) }
+    ensures { result ≡ is_expression kind }
 {
     is_member(kind) || is_call(kind) || is_literal(kind) || is_primary(kind) || is_operation(kind)
 }
 
 pub fn is_pattern(kind: Kind) -> bool
-    ensures { result ≡ is_among (kind_of kind) patterns }
+    ensures { result ≡ is_among kind patterns }
 {
     matches!(
         kind,
@@ -158,13 +157,13 @@ pub fn is_pattern(kind: Kind) -> bool
 }
 
 pub fn is_simple_target(kind: Kind) -> bool
-    ensures { result ≡ is_simple_target (kind_of kind) }
+    ensures { result ≡ is_simple_target kind }
 {
     is_kind(kind, Kind::Identifier) || is_member(kind)
 }
 
 pub fn is_target_pattern(kind: Kind) -> bool
-    ensures { result ≡ is_among (kind_of kind) target_patterns }
+    ensures { result ≡ is_among kind target_patterns }
 {
     matches!(
         kind,
@@ -173,13 +172,13 @@ pub fn is_target_pattern(kind: Kind) -> bool
 }
 
 pub fn is_target(kind: Kind) -> bool
-    ensures { result ≡ is_target (kind_of kind) }
+    ensures { result ≡ is_target kind }
 {
     is_target_pattern(kind) || is_simple_target(kind)
 }
 
 pub fn is_plain_key(kind: Kind) -> bool
-    ensures { result ≡ is_among (kind_of kind) plain_keys }
+    ensures { result ≡ is_among kind plain_keys }
 {
     matches!(
         kind,

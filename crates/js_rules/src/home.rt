@@ -3,7 +3,7 @@ ghost use Rattle.js_syntax.specs.Parts.{parts_of, texts_of};
 ghost use Rattle.js_syntax.specs.Super.{Home as HomeRound, home_inside, allows_super, with_super, class_home, method_home, property_home, allows_object, allows_callee, is_method};
 ghost use Rattle.js_rules.specs.Contexts.{home_of, super_of};
 
-use crate::kind::Kind;
+use js_term::Kind;
 use crate::node_rule::NodeRule;
 use crate::view::View;
 

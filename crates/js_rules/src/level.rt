@@ -3,7 +3,7 @@ ghost use Rattle.js_syntax.specs.ModuleTree.{Level as LevelRound, level_inside, 
 ghost use Rattle.js_rules.specs.Contexts.{level_of};
 
 use crate::groups::is_module_declaration;
-use crate::kind::Kind;
+use js_term::Kind;
 use crate::node_rule::NodeRule;
 use crate::view::View;
 

@@ -4,7 +4,6 @@
 mod groups;
 mod home;
 mod initializers;
-mod kind;
 mod leave;
 mod level;
 mod lexicon;
@@ -23,7 +22,7 @@ mod walk;
 
 pub use home::{Home, Super, SuperRule};
 pub use initializers::{Initializers, PartsRule};
-pub use kind::Kind;
+pub use js_term::Kind;
 pub use leave::{Leave, LeaveRule};
 pub use level::{Level, LevelRule};
 pub use lexicon::{Lexicon, is_free_name};

@@ -2,7 +2,7 @@ ghost use Rattle.std.specs.Prelude.{◌≡◌, Bool};
 ghost use Rattle.js_syntax.specs.Parts.{parts_of, texts_of};
 ghost use Rattle.js_syntax.specs.Printable.{spine_inside, allows_links, has_link};
 
-use crate::kind::Kind;
+use js_term::Kind;
 use crate::node_rule::NodeRule;
 use crate::view::{Form, View};
 

@@ -1,10 +1,10 @@
 ghost use Rattle.std.specs.Prelude.{◌≡◌, ℕ, Bool, List, true};
-ghost use Rattle.js_term.specs.Term.{node, Terms, Text, Kind as TermKind};
+ghost use Rattle.js_term.specs.Term.{node, Terms, Text};
+ghost use Rattle.js_term.specs.declared.kind.Kind.{Kind as TermKind};
 ghost use Rattle.js_syntax.specs.Everywhere.{at_each_node};
 ghost use Rattle.js_syntax.specs.Parts.{parts_of, texts_of};
-ghost use Rattle.js_rules.specs.KindOf.{kind_of};
 
-use crate::kind::Kind;
+use js_term::Kind;
 use crate::view::View;
 use crate::walk::{Rule, everywhere};
 use std::marker::PhantomData;
@@ -23,13 +23,13 @@ pub trait NodeRule {
 
     /// What holds round the kid numbered `n`.
     fn inside<V: View>(context: &Self::Context, kind: Kind, view: &V, n: usize) -> Self::Context
-        requires { V.term view.now ≡ node (kind_of kind) (texts_of (V.term view.now)) (parts_of (V.term view.now)) }
-        ensures { round result ≡ inside (round context.now) (kind_of kind) (texts_of (V.term view.now)) (parts_of (V.term view.now)) n };
+        requires { V.term view.now ≡ node kind (texts_of (V.term view.now)) (parts_of (V.term view.now)) }
+        ensures { round result ≡ inside (round context.now) kind (texts_of (V.term view.now)) (parts_of (V.term view.now)) n };
 
     /// Whether the node may stand where the context holds.
     fn allows<V: View>(context: &Self::Context, kind: Kind, view: &V) -> bool
-        requires { V.term view.now ≡ node (kind_of kind) (texts_of (V.term view.now)) (parts_of (V.term view.now)) }
-        ensures { result ≡ allows (round context.now) (kind_of kind) (texts_of (V.term view.now)) (parts_of (V.term view.now)) };
+        requires { V.term view.now ≡ node kind (texts_of (V.term view.now)) (parts_of (V.term view.now)) }
+        ensures { result ≡ allows (round context.now) kind (texts_of (V.term view.now)) (parts_of (V.term view.now)) };
 }
 
 /// The rule that asks so at each node.

@@ -1,10 +1,9 @@
 ghost use Rattle.std.specs.Prelude.{◌≡◌, length};
 ghost use Rattle.js_syntax.specs.Parts.{texts_of};
 ghost use Rattle.js_syntax.specs.Places.{key_place, object_place, function_places, class_places, method_place, value_place, target_place, yield_place, statement_places, module_places, function_kind_places, pattern_places, places, part_places_at, places_at, place_at};
-ghost use Rattle.js_rules.specs.KindOf.{kind_of};
 ghost use Rattle.js_rules.specs.SortsSeen.{sort_seen, place_seen, places_seen};
 
-use crate::kind::Kind;
+use js_term::Kind;
 use crate::sort::{Place, Sort};
 use crate::view::View;
 
@@ -132,7 +131,7 @@ fn yield_place<V: View>(expression: &V) -> Place
 
 /// The places of a statement's parts; other kinds that no table names have no parts.
 fn statement_places<V: View>(kind: Kind, _view: &V) -> PlaceList
-    ensures { places_seen result ≡ statement_places (kind_of kind) (texts_of (V.term _view.now)) }
+    ensures { places_seen result ≡ statement_places kind (texts_of (V.term _view.now)) }
 {
     match kind {
         Kind::BlockStatement => PlaceList::One(Place::Many(Sort::Statement)),
@@ -201,7 +200,7 @@ fn statement_places<V: View>(kind: Kind, _view: &V) -> PlaceList
 }
 
 fn module_places<V: View>(kind: Kind, view: &V) -> PlaceList
-    ensures { places_seen result ≡ module_places (kind_of kind) (texts_of (V.term view.now)) }
+    ensures { places_seen result ≡ module_places kind (texts_of (V.term view.now)) }
 {
     match kind {
         Kind::Program => PlaceList::Two(
@@ -241,7 +240,7 @@ fn module_places<V: View>(kind: Kind, view: &V) -> PlaceList
 }
 
 fn function_kind_places<V: View>(kind: Kind, view: &V) -> PlaceList
-    ensures { places_seen result ≡ function_kind_places (kind_of kind) (texts_of (V.term view.now)) }
+    ensures { places_seen result ≡ function_kind_places kind (texts_of (V.term view.now)) }
 {
     match kind {
         Kind::FunctionDeclaration => function_places(Place::One(Sort::Only(
@@ -282,7 +281,7 @@ fn function_kind_places<V: View>(kind: Kind, view: &V) -> PlaceList
 }
 
 fn pattern_places<V: View>(kind: Kind, view: &V) -> PlaceList
-    ensures { places_seen result ≡ pattern_places (kind_of kind) (texts_of (V.term view.now)) }
+    ensures { places_seen result ≡ pattern_places kind (texts_of (V.term view.now)) }
 {
     match kind {
         Kind::ObjectPattern => PlaceList::Two(
@@ -324,7 +323,7 @@ fn pattern_places<V: View>(kind: Kind, view: &V) -> PlaceList
 }
 
 fn places<V: View>(kind: Kind, view: &V) -> PlaceList
-    ensures { places_seen result ≡ places (kind_of kind) (texts_of (V.term view.now)) }
+    ensures { places_seen result ≡ places kind (texts_of (V.term view.now)) }
 {
     match kind {
         Kind::TemplateLiteral => PlaceList::Two(
@@ -396,7 +395,7 @@ fn places<V: View>(kind: Kind, view: &V) -> PlaceList
 }
 
 fn part_places_at<V: View>(sort: Sort, kind: Kind, view: &V) -> PlaceList
-    ensures { places_seen result ≡ part_places_at (sort_seen sort) (kind_of kind) (texts_of (V.term view.now)) }
+    ensures { places_seen result ≡ part_places_at (sort_seen sort) kind (texts_of (V.term view.now)) }
 {
     match sort {
         Sort::ObjectRest => match kind {
@@ -422,7 +421,7 @@ fn part_places_at<V: View>(sort: Sort, kind: Kind, view: &V) -> PlaceList
 
 /// The places of the parts of a node that stands at the sort.
 pub fn places_at<V: View>(sort: Sort, kind: Kind, view: &V) -> PlaceList
-    ensures { places_seen result ≡ places_at (sort_seen sort) (kind_of kind) (texts_of (V.term view.now)) }
+    ensures { places_seen result ≡ places_at (sort_seen sort) kind (texts_of (V.term view.now)) }
 {
     match sort {
         Sort::ExportedDefault => match kind {

@@ -5,7 +5,7 @@ ghost use Rattle.js_syntax.specs.ModuleTree.{is_declared, declared_by, private_n
 ghost use Rattle.js_term.specs.Scope.{kid};
 ghost use Rattle.js_rules.specs.OuterSeen.{declared_names, terms_of};
 
-use crate::kind::Kind;
+use js_term::Kind;
 use crate::outer::Outer;
 use crate::view::View;
 

@@ -1,9 +1,8 @@
 ghost use Rattle.std.specs.Prelude.{◌≡◌};
 ghost use Rattle.js_syntax.specs.Parts.{parts_of};
 ghost use Rattle.js_rules.specs.OuterSeen.{declared_names, terms_of, has_private_names_in, parts_have_private_names, is_class};
-ghost use Rattle.js_rules.specs.KindOf.{kind_of};
 
-use crate::kind::{Kind, is_kind};
+use js_term::{Kind, is_kind};
 use crate::outer::Outer;
 use crate::private::is_declared;
 use crate::view::{Form, View};
@@ -34,7 +33,7 @@ pub fn has_private_names<V: View>(view: V, classes: Option<&Outer<V>>) -> bool
 }
 
 fn is_class(kind: Kind) -> bool
-    ensures { result ≡ is_class (kind_of kind) }
+    ensures { result ≡ is_class kind }
 {
     is_kind(kind, Kind::ClassDeclaration) || is_kind(kind, Kind::ClassExpression)
 }

@@ -1,12 +1,11 @@
 ghost use Rattle.std.specs.Prelude.{◌≡◌, ◌<◌, ◌≤◌, ◌+◌, nat_le};
 ghost use Rattle.js_term.specs.Scope.{kid};
-ghost use Rattle.js_term.specs.Term.{ImportSpecifier};
+ghost use Rattle.js_term.specs.declared.kind.Kind.TheVariants.{ImportSpecifier};
 ghost use Rattle.js_syntax.specs.Parts.{parts_of, texts_of, text_of, text_at, count, count_if, each, is_node};
 ghost use Rattle.js_syntax.specs.Printable.{ends_open, leaves_else, is_named, is_for_of, is_try, is_default, is_switch, is_template, are_plain_specifiers, is_import_clause, is_constructor_key, is_method_definition, is_value_of, is_one_name, marks_shorthand, is_property, is_sound};
 ghost use Rattle.js_rules.specs.Seen.{from};
-ghost use Rattle.js_rules.specs.KindOf.{kind_of};
 
-use crate::kind::Kind;
+use js_term::Kind;
 use crate::view::{Form, View, one_if};
 
 /// Whether the statement ends in an `if` without `else`.
@@ -150,7 +149,7 @@ fn is_property<V: View>(property: &V) -> bool
 
 /// Whether the sentences on nodes of the kind hold.
 pub fn is_sound<V: View>(kind: Kind, view: &V) -> bool
-    ensures { result ≡ is_sound (kind_of kind) (texts_of (V.term view.now)) (parts_of (V.term view.now)) }
+    ensures { result ≡ is_sound kind (texts_of (V.term view.now)) (parts_of (V.term view.now)) }
 {
     match kind {
         Kind::IfStatement => leaves_else(view),

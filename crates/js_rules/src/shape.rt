@@ -2,10 +2,9 @@ ghost use Rattle.std.specs.Prelude.{◌≡◌};
 ghost use Rattle.js_syntax.specs.Parts.{parts_of, texts_of};
 ghost use Rattle.js_syntax.specs.Sorts.{Place as PlaceRound, suits, stands, takes_node, takes_list, takes_absent, item_place, sort_of, expression};
 ghost use Rattle.js_syntax.specs.Printable.{place_inside, places_of, fits};
-ghost use Rattle.js_rules.specs.KindOf.{kind_of};
 ghost use Rattle.js_rules.specs.SortsSeen.{sort_seen, place_seen, places_seen};
 
-use crate::kind::Kind;
+use js_term::Kind;
 use crate::lexicon::Lexicon;
 use crate::places::{PlaceList, place_at, place_count, places_at};
 use crate::sentences::is_sound;
@@ -20,7 +19,7 @@ pub struct ShapeRule<L>(PhantomData<L>);
 
 /// What the texts of a node have to be at a sort, beyond what its kind asks for.
 fn suits<L: Lexicon, V: View>(sort: Sort, kind: Kind, view: &V) -> bool
-    ensures { result ≡ suits (sort_seen sort) (kind_of kind) (texts_of (V.term view.now)) }
+    ensures { result ≡ suits (sort_seen sort) kind (texts_of (V.term view.now)) }
 {
     match sort {
         Sort::Body => match kind {
@@ -40,13 +39,13 @@ fn suits<L: Lexicon, V: View>(sort: Sort, kind: Kind, view: &V) -> bool
 }
 
 fn stands<L: Lexicon, V: View>(sort: Sort, kind: Kind, view: &V) -> bool
-    ensures { result ≡ stands (sort_seen sort) (kind_of kind) (texts_of (V.term view.now)) }
+    ensures { result ≡ stands (sort_seen sort) kind (texts_of (V.term view.now)) }
 {
     takes(sort, kind) && suits::<L, V>(sort, kind, view)
 }
 
 fn takes_node<L: Lexicon, V: View>(place: Place, kind: Kind, view: &V) -> bool
-    ensures { result ≡ takes_node (place_seen place) (kind_of kind) (texts_of (V.term view.now)) }
+    ensures { result ≡ takes_node (place_seen place) kind (texts_of (V.term view.now)) }
 {
     match place {
         Place::One(sort) | Place::Optional(sort) => stands::<L, V>(sort, kind, view),
@@ -65,7 +64,7 @@ fn sort_of(place: Place) -> Sort
 }
 
 fn places_of<V: View>(place: Place, kind: Kind, view: &V) -> PlaceList
-    ensures { places_seen result ≡ places_of (place_seen place) (kind_of kind) (texts_of (V.term view.now)) }
+    ensures { places_seen result ≡ places_of (place_seen place) kind (texts_of (V.term view.now)) }
 {
     places_at(sort_of(place), kind, view)
 }

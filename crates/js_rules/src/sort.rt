@@ -1,7 +1,6 @@
 ghost use Rattle.std.specs.Prelude.{◌≡◌};
 ghost use Rattle.js_term.specs.Kinds.{is_kind};
 ghost use Rattle.js_syntax.specs.Sorts.{takes};
-ghost use Rattle.js_rules.specs.KindOf.{kind_of};
 ghost use Rattle.js_rules.specs.SortsSeen.{sort_seen};
 
 use crate::groups::{
@@ -9,7 +8,7 @@ use crate::groups::{
     is_named_declaration, is_pattern, is_plain_key, is_plain_statement, is_simple_target,
     is_target,
 };
-use crate::kind::{Kind, is_kind};
+use js_term::{Kind, is_kind};
 
 /// What a place asks for.
 #[derive(Clone, Copy)]
@@ -78,10 +77,10 @@ pub enum Place {
 
 /// Whether nodes of the kind stand at the sort.
 pub fn takes(sort: Sort, kind: Kind) -> bool
-    ensures { result ≡ takes (sort_seen sort) (kind_of kind) }
+    ensures { result ≡ takes (sort_seen sort) kind }
 {
     let is = |other: Kind| -> bool
-        ensures { result ≡ is_kind (kind_of kind) (kind_of other) }
+        ensures { result ≡ is_kind kind other }
     { is_kind(kind, other) };
     match sort {
         Sort::Only(only) => is(only),

@@ -3,9 +3,8 @@ ghost use Rattle.js_term.specs.Kinds.{is_among};
 ghost use Rattle.js_syntax.specs.Parts.{texts_of};
 ghost use Rattle.js_syntax.specs.ModuleTree.{is_strict_name, target_inside, allows_name, arguments_inside, allows_arguments, the_same, allows_length, names};
 ghost use Rattle.std.specs.Prelude.{Bool};
-ghost use Rattle.js_rules.specs.KindOf.{kind_of};
 
-use crate::kind::Kind;
+use js_term::Kind;
 use crate::node_rule::NodeRule;
 use crate::view::View;
 
@@ -86,7 +85,7 @@ impl NodeRule for ArgumentsRule {
 }
 
 fn is_name(kind: Kind) -> bool
-    ensures { result ≡ is_among (kind_of kind) names }
+    ensures { result ≡ is_among kind names }
 {
     matches!(
         kind,

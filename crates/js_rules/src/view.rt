@@ -3,10 +3,9 @@ ghost use Rattle.js_term.specs.Term.{Term, node, is_text};
 ghost use Rattle.js_term.specs.Scope.{kid};
 ghost use Rattle.js_syntax.specs.Parts.{parts_of, texts_of, text_of, is_set_at, is_node, is_present, count};
 ghost use Rattle.js_syntax.specs.Texts.{has_texts};
-ghost use Rattle.js_rules.specs.KindOf.{kind_of};
 ghost use Rattle.js_rules.specs.Seen.{HasForm};
 
-use crate::kind::{Kind, is_kind};
+use js_term::{Kind, is_kind};
 use crate::lexicon::Lexicon;
 
 /// What stands at a place: nothing, a list, or a node of some kind.
@@ -42,8 +41,8 @@ pub trait View: Copy {
 
     /// Whether a node of this kind has such texts.
     fn has_texts<L: Lexicon>(&self, kind: Kind) -> bool
-        requires { term self.now ≡ node (kind_of kind) (texts_of (term self.now)) (parts_of (term self.now)) }
-        ensures { result ≡ has_texts (kind_of kind) (texts_of (term self.now)) };
+        requires { term self.now ≡ node kind (texts_of (term self.now)) (parts_of (term self.now)) }
+        ensures { result ≡ has_texts kind (texts_of (term self.now)) };
 
     /// Whether the first text is this word.
     final fn text_is(&self, word: &str) -> bool
@@ -61,7 +60,7 @@ pub trait View: Copy {
 
     /// Whether it is a node of this kind.
     final fn is(&self, kind: Kind) -> bool
-        ensures { result ≡ is_node (kind_of kind) (term self.now) }
+        ensures { result ≡ is_node kind (term self.now) }
     {
         match self.form() {
             Form::Node(own) => is_kind(own, kind),

@@ -1,11 +1,11 @@
 ghost use Rattle.std.specs.Prelude.{◌≡◌, ℕ, ◌<◌, Bool, List};
-ghost use Rattle.js_term.specs.Term.{Term, list, node, Terms, Text, Kind as TermKind};
+ghost use Rattle.js_term.specs.Term.{Term, list, node, Terms, Text};
+ghost use Rattle.js_term.specs.declared.kind.Kind.{Kind as TermKind};
 ghost use Rattle.js_syntax.specs.Everywhere.{everywhere};
 ghost use Rattle.js_syntax.specs.Parts.{count, parts_of, texts_of};
 ghost use Rattle.js_rules.specs.Seen.{HasForm};
-ghost use Rattle.js_rules.specs.KindOf.{kind_of};
 
-use crate::kind::Kind;
+use js_term::Kind;
 use crate::view::{Form, View};
 
 /// A rule over a whole tree: what holds round the kids of a node, and what may stand where that holds.
@@ -27,15 +27,15 @@ pub trait Rule {
     ghost allows_absent: { Round → Bool };
 
     fn inside<V: View>(context: &Self::Context, kind: Kind, view: &V, n: usize) -> Self::Context
-        requires { V.term view.now ≡ node (kind_of kind) (texts_of (V.term view.now)) (parts_of (V.term view.now)) }
-        ensures { round result ≡ inside (round context.now) (kind_of kind) (texts_of (V.term view.now)) (parts_of (V.term view.now)) n };
+        requires { V.term view.now ≡ node kind (texts_of (V.term view.now)) (parts_of (V.term view.now)) }
+        ensures { round result ≡ inside (round context.now) kind (texts_of (V.term view.now)) (parts_of (V.term view.now)) n };
 
     fn item(context: &Self::Context) -> Self::Context
         ensures { round result ≡ item (round context.now) };
 
     fn allows<V: View>(context: &Self::Context, kind: Kind, view: &V) -> bool
-        requires { V.term view.now ≡ node (kind_of kind) (texts_of (V.term view.now)) (parts_of (V.term view.now)) }
-        ensures { result ≡ allows (round context.now) (kind_of kind) (texts_of (V.term view.now)) (parts_of (V.term view.now)) };
+        requires { V.term view.now ≡ node kind (texts_of (V.term view.now)) (parts_of (V.term view.now)) }
+        ensures { result ≡ allows (round context.now) kind (texts_of (V.term view.now)) (parts_of (V.term view.now)) };
 
     fn allows_list<V: View>(context: &Self::Context, view: &V) -> bool
         requires { V.term view.now ≡ list (parts_of (V.term view.now)) }

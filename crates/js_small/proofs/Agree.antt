@@ -2,7 +2,8 @@
 use Rattle.std.proofs.Common.{◌≡◌, refl, sym, ap, ◌∙◌, List, [], ◌∷◌, ◌++◌, Bool, true, false, ◌&&◌, map, codes}
 use Rattle.std.specs.Prelude.{option_map}
 use mathlib.Core.Bool.{true≢false}
-use Rattle.js_term.specs.Term.{Kind, Term, absent, list, node, Terms, none, more, two, all, maybe, flag}
+use Rattle.js_term.specs.Term.{Term, absent, list, node, Terms, none, more, two, all, maybe, flag}
+use Rattle.js_term.specs.declared.kind.Kind.TheVariants as Kind
 use Rattle.js_term.specs.Scope.{role, body_names, module_scope, names_in}
 use Rattle.js_term.specs.Form.{Sort, Place, one, nowhere, empty, stands_small, places, fits, fits_each, fits_places, takes_kind, takes_list, takes_absent, item_place, first_place, later_places, no_places, no_texts, is_distinct, is_distinct_inside, has_distinct_scopes, have_distinct_scopes, is_small}
 use Rattle.small_tree.specs.TermOf.{function_word, function_term, binding_term, parameters_term, parameter_term, body_term, directive_term, statement_term, program_term, hashbang_texts}

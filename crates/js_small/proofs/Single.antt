@@ -1,7 +1,9 @@
 -- A statement of a small module declares one name, or none.
 use Rattle.std.proofs.Common.{◌≡◌, refl, sym, ap, ◌∙◌, List, [], ◌∷◌, ◌++◌, Bool, true, false, ◌&&◌, ◌||◌, map}
 use mathlib.Core.Bool.{true≢false}
-use Rattle.js_term.specs.Term.{Text, Kind, Term, absent, list, node, Terms, none, more, all}
+use Rattle.js_term.specs.Term.{Text, Term, absent, list, node, Terms, none, more, all}
+use Rattle.js_term.specs.declared.kind.Kind.{Kind}
+use Rattle.js_term.specs.declared.kind.Kind.TheVariants as Kind
 use Rattle.js_term.specs.Scope.{role, declares, declared, declared_all, declared_first}
 use Rattle.js_term.specs.Form.{Sort, Place, one, single, nowhere, stands_small, is_declaration, is_item, is_statement, is_distinct_inside, places}
 use Rattle.small_tree.specs.TermOf.{statement_term}

@@ -1,6 +1,7 @@
 -- Form and names in one recursion, in the order in which the walk tests them.
 use Rattle.std.specs.Prelude.{List, [], ◌∷◌, option_map, map, Bool, true, ◌&&◌, codes}
-use Rattle.js_term.specs.Term.{Text, Kind, Term, absent, list, node, Terms, none, more, all, maybe, flag}
+use Rattle.js_term.specs.Term.{Text, Term, absent, list, node, Terms, none, more, all, maybe, flag}
+use Rattle.js_term.specs.declared.kind.Kind.{Kind}
 use Rattle.js_term.specs.Scope.{role}
 use Rattle.js_term.specs.Form.{Sort, Place, one, empty, takes_absent, takes_list, item_place, first_place, later_places, no_places, no_texts, takes_kind, stands_small, allows, places, is_small_name, is_small_binding, is_distinct_inside}
 use Rattle.small_tree.specs.TermOf.{function_word, binding_term, parameter_term, directive_term, hashbang_texts}

@@ -2,7 +2,8 @@
 use Rattle.std.proofs.Common.{◌≡◌, refl, ℕ, Bool, true, false, ◌||◌, List, [], ◌∷◌, map}
 use Rattle.std.specs.Prelude.{codes}
 use Rattle.std.proofs.lemmas.Bool.{or_left, or_right}
-use Rattle.js_term.specs.Term.{Text, Kind, Term}
+use Rattle.js_term.specs.Term.{Text, Term}
+use Rattle.js_term.specs.declared.kind.Kind.{Kind}
 use Rattle.js_term.specs.Lexeme.{is_one_of}
 use Rattle.js_syntax.specs.Tokens.{Lexeme, sign, template_middle, template_tail, Token, Word, Sign}
 use Rattle.js_syntax.specs.Edges.{is_unary, is_update}

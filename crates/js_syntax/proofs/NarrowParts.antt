@@ -1,6 +1,7 @@
 -- The parts of small modules that hold no expressions, and how lists of parts end.
 use Rattle.std.proofs.Common.{◌≡◌, refl, ap, subst, ◌≤◌, List, [], ◌∷◌, true, false, not, arith}
-use Rattle.js_term.specs.Term.{Text, Kind, Term, absent, list, node, Terms, more, two, all}
+use Rattle.js_term.specs.Term.{Text, Term, absent, list, node, Terms, more, two, all}
+use Rattle.js_term.specs.declared.kind.Kind.TheVariants as Kind
 use Rattle.js_term.specs.Lexeme.{Manner, left_paren, right_paren}
 use Rattle.js_term.specs.Lexeme as token
 use Rattle.js_term.specs.Node.{binding_of, named, parameters_of}

@@ -2,7 +2,8 @@
 use Rattle.std.proofs.Common.{◌≡◌, refl, ℕ, ◌≤◌, suc, Bool, true, arith, sym, ap, subst, ◌∙◌}
 use Rattle.std.specs.Prelude.{nat_le}
 use Rattle.std.proofs.lemmas.Bool.{and_from, le-leb}
-use Rattle.js_term.specs.Term.{Text, Kind, Term}
+use Rattle.js_term.specs.Term.{Text, Term}
+use Rattle.js_term.specs.declared.kind.Kind.TheVariants as Kind
 use Rattle.js_syntax.specs.Edges.{is_coalesce_left, member_level}
 use Rattle.js_syntax.specs.Spelling
 use Rattle.js_syntax.specs.Spelling.{Stands, Access, static_access, computed_access, private_access, BareNew, new_member, new_new, FunctionText, function, ClassText, class}

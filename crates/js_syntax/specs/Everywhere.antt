@@ -2,7 +2,8 @@
 -- holds round each of its kids, and the rule asks at each node, at each list and at each absent part whether it
 -- may stand there.
 use Rattle.std.specs.Prelude.{ℕ, zero, suc, List, Bool, true, ◌&&◌}
-use Rattle.js_term.specs.Term.{Text, Kind, Term, absent, list, node, Terms, none, more}
+use Rattle.js_term.specs.Term.{Text, Term, absent, list, node, Terms, none, more}
+use Rattle.js_term.specs.declared.kind.Kind.{Kind}
 
 -- `inside c k texts ts n` holds round the kid numbered n of such a node, and `item c` round the items of a list.
 module _ {C : Type 0} (inside : C → Kind → List Text → Terms → ℕ → C) (item : C → C) (allows : C → Kind → List Text → Terms → Bool) (allows_list : C → Terms → Bool) (allows_absent : C → Bool) where

@@ -1,6 +1,7 @@
 -- Texts and the modules that they spell, where the rules bite. The law `worked_examples` says that each of these holds.
 use Rattle.std.specs.Prelude.{List, [], ◌∷◌, true, false, codes}
-use Rattle.js_term.specs.Term.{Text, Kind, Term, absent, list, node, none, one, two, all}
+use Rattle.js_term.specs.Term.{Text, Term, absent, list, node, none, one, two, all}
+use Rattle.js_term.specs.declared.kind.Kind.TheVariants as Kind
 use Rattle.js_term.specs.Node.{identifier_of, binding_of, name_of, string_of, number_of, sequence_of, await_of, array_of, object_of, parenthesized_of, return_of, statement_of, specifier_of, export_declaration_of}
 use Rattle.js_syntax.specs.Nodes.{alone, of_text, of_part, of_parts, of_list, marked, three, regexp_of, template_of, super_of, call_link, static_link, computed_link, private_of, private_link, new_of, update_of, property, pair_of, rested, parameter_of, function_node, body_node, class_node, method_node, field_node, variables_of, declarator_of, block_of, label_of, for_of, for_each, case_of, if_of, try_of, export_specifier_of, module_of}
 use Rattle.js_syntax.specs.Modules.{Spells}

@@ -1,6 +1,8 @@
 -- The level of an expression by its tree (13.2 to 13.16), and which places its parts have.
 use Rattle.std.specs.Prelude.{◌≡◌, ℕ, suc, List, Option, None, Some, Bool, true, ◌&&◌, if◌then◌else◌, nat_le, codes}
-use Rattle.js_term.specs.Term.{Text, is_text, Kind, Term, absent, list, node, Terms, none, more, first, head, rest}
+use Rattle.js_term.specs.Term.{Text, is_text, Term, absent, list, node, Terms, none, more, first, head, rest}
+use Rattle.js_term.specs.declared.kind.Kind.{Kind}
+use Rattle.js_term.specs.declared.kind.Kind.TheVariants as Kind
 use Rattle.js_syntax.specs.Edges.{binary_level, is_coalesce_left, member_level}
 use Rattle.js_syntax.specs.Spelling.{Stands}
 

@@ -1,7 +1,9 @@
 -- Module trees: printable trees that meet the six rules below, which are early errors of ECMAScript. Other early
 -- errors are not checked.
 use Rattle.std.specs.Prelude.{ℕ, suc, List, [], ◌∷◌, ◌++◌, Bool, true, false, cond, not, ◌&&◌, ◌||◌, length, nat_eq, nat_le, codes}
-use Rattle.js_term.specs.Term.{Text, Kind, Term, absent, node, Terms, none, more}
+use Rattle.js_term.specs.Term.{Text, Term, absent, node, Terms, none, more}
+use Rattle.js_term.specs.declared.kind.Kind.{Kind}
+use Rattle.js_term.specs.declared.kind.Kind.TheVariants as Kind
 use Rattle.js_term.specs.Scope.{kid}
 use Rattle.js_term.specs.Lexeme.{is_one_of}
 use Rattle.js_syntax.specs.Everywhere.{at_each_node, first_then}

@@ -1,7 +1,8 @@
 -- Module trees, each beside the same tree with the one change after which it is none. The law
 -- `module_tree_examples` says that each line holds.
 use Rattle.std.specs.Prelude.{◌≡◌, ℕ, List, [], ◌∷◌, true, replicate, false, codes}
-use Rattle.js_term.specs.Term.{Text, Kind, Term, absent, node, none, one, two}
+use Rattle.js_term.specs.Term.{Text, Term, absent, node, none, one, two}
+use Rattle.js_term.specs.declared.kind.Kind.TheVariants as Kind
 use Rattle.js_term.specs.Node.{identifier_of, binding_of, name_of, string_of, statement_of, member_of, call_of, body_of}
 use Rattle.js_syntax.specs.ModuleTree.{is_module_tree, is_module_value, has_leave_in, no_leave}
 use Rattle.js_syntax.specs.Printable.{is_printable}

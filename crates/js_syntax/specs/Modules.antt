@@ -1,6 +1,7 @@
 -- Which text spells which module, from the imports and exports up (ECMAScript 16.2).
 use Rattle.std.specs.Prelude.{◌≡◌, ℕ, List, [], ◌∷◌, ◌++◌, true, false, codes}
-use Rattle.js_term.specs.Term.{Text, Kind, Term, absent, list, all}
+use Rattle.js_term.specs.Term.{Text, Term, absent, list, all}
+use Rattle.js_term.specs.declared.kind.Kind.TheVariants as Kind
 use Rattle.js_term.specs.Lexeme.{is_reserved}
 use Rattle.js_term.specs.Node.{identifier_of, binding_of, name_of, string_of, specifier_of, export_declaration_of}
 use Rattle.js_syntax.specs.Lexical.{is_hashbang, ends_line}

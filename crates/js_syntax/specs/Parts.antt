@@ -1,6 +1,7 @@
 -- The parts and texts of a term, and questions about them.
 use Rattle.std.specs.Prelude.{ℕ, zero, suc, List, [], ◌∷◌, Bool, true, false, cond, ◌&&◌}
-use Rattle.js_term.specs.Term.{Text, is_text, Kind, Term, absent, list, node, Terms, none, more}
+use Rattle.js_term.specs.Term.{Text, is_text, Term, absent, list, node, Terms, none, more}
+use Rattle.js_term.specs.declared.kind.Kind.{Kind}
 use Rattle.js_term.specs.Kinds.{is_kind}
 
 -- the kids of a node, or the items of a list

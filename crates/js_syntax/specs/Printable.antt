@@ -1,7 +1,9 @@
 -- Which trees are printable: each part stands at a place that takes it, each text is one of its kind, and the
 -- sentences below hold, which say more than a place does.
 use Rattle.std.specs.Prelude.{ℕ, zero, suc, List, Bool, true, false, not, ◌&&◌, ◌||◌, nat_eq, nat_le, codes}
-use Rattle.js_term.specs.Term.{Text, is_text, Kind, Term, node, Terms, none, more}
+use Rattle.js_term.specs.Term.{Text, is_text, Term, node, Terms, none, more}
+use Rattle.js_term.specs.declared.kind.Kind.{Kind}
+use Rattle.js_term.specs.declared.kind.Kind.TheVariants as Kind
 use Rattle.js_term.specs.Scope.{kid}
 use Rattle.js_syntax.specs.Everywhere.{everywhere, at_each_node, first_then}
 use Rattle.js_syntax.specs.Parts.{parts_of, text_of, text_at, first_is, is_set, is_set_at, is_node, is_present, count, count_if, each}

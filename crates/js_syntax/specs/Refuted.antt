@@ -1,6 +1,7 @@
 -- Texts that spell no module, and rules where the tables say no. The law `refuted_texts` says that each of these holds.
 use Rattle.std.specs.Prelude.{◌≡◌, ℕ, [], ◌∷◌, Bool, true, false, codes}
-use Rattle.js_term.specs.Term.{Text, Kind, Term, Terms, none, one, two}
+use Rattle.js_term.specs.Term.{Text, Term, Terms, none, one, two}
+use Rattle.js_term.specs.declared.kind.Kind.TheVariants as Kind
 use Rattle.js_term.specs.Node.{identifier_of}
 use Rattle.js_syntax.specs.Lexical.{has_byte, has_any}
 use Rattle.js_syntax.specs.Nodes.{marked, call_link, new_of}

@@ -1,7 +1,9 @@
 -- Where `super` stands (ECMAScript 13.3.7, 15.4.1, 15.7.1): `super.x` in methods, field initializers, static blocks
 -- and arrows there; `super()` in constructors of classes with heritage, and arrows there.
 use Rattle.std.specs.Prelude.{ℕ, List, Bool, true, false, cond, codes, ◌||◌}
-use Rattle.js_term.specs.Term.{Text, Kind, Term, absent, node, Terms}
+use Rattle.js_term.specs.Term.{Text, Term, absent, node, Terms}
+use Rattle.js_term.specs.declared.kind.Kind.{Kind}
+use Rattle.js_term.specs.declared.kind.Kind.TheVariants as Kind
 use Rattle.js_term.specs.Scope.{kid}
 use Rattle.js_syntax.specs.Everywhere.{at_each_node, first_then}
 use Rattle.js_syntax.specs.Parts.{first_is, is_set_at}

@@ -1,6 +1,8 @@
 -- The texts of each kind of node: names, operators, raw literals and flags, each as it stands in a module's text.
 use Rattle.std.specs.Prelude.{ℕ, suc, nat_eq, length, ◌||◌, List, [], ◌∷◌, Bool, true, not, ◌&&◌, map, codes}
-use Rattle.js_term.specs.Term.{Text, Kind}
+use Rattle.js_term.specs.Term.{Text}
+use Rattle.js_term.specs.declared.kind.Kind.{Kind}
+use Rattle.js_term.specs.declared.kind.Kind.TheVariants as Kind
 use Rattle.js_term.specs.Lexeme.{is_reserved, is_one_of}
 use Rattle.js_syntax.specs.Parts.{text_at}
 use Rattle.js_syntax.specs.Lexical.{is_name, is_numeral, is_big_integer, is_raw_string, is_template_text, is_regexp_body, is_regexp_flags, is_hashbang}

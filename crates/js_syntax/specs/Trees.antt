@@ -1,6 +1,7 @@
 -- Small trees for the examples: the nodes that they are made of, each beside what it is written as.
 use Rattle.std.specs.Prelude.{◌≡◌, List, [], ◌∷◌, Bool, true, false, codes}
-use Rattle.js_term.specs.Term.{Text, Kind, Term, absent, list, node, Terms, none, more, one, two}
+use Rattle.js_term.specs.Term.{Text, Term, absent, list, node, Terms, none, more, one, two}
+use Rattle.js_term.specs.declared.kind.Kind.TheVariants as Kind
 use Rattle.js_term.specs.Node.{identifier_of, binding_of, name_of, string_of, program_of, statement_of, member_of, call_of, body_of, parameters_of}
 
 -- names

@@ -1,7 +1,9 @@
 -- Which trees are printable, and which are small: tables of what may stand at a place, of the places of each
 -- kind's parts, and of the texts of each kind.
 use Rattle.std.specs.Prelude.{List, [], ◌∷◌, take, Bool, true, false, not, ◌&&◌, codes}
-use Rattle.js_term.specs.Term.{Text, is_text, Kind, Term, absent, list, node, Terms, none, more, kids_of, items}
+use Rattle.js_term.specs.Term.{Text, is_text, Term, absent, list, node, Terms, none, more, kids_of, items}
+use Rattle.js_term.specs.declared.kind.Kind.{Kind}
+use Rattle.js_term.specs.declared.kind.Kind.TheVariants as Kind
 use Rattle.js_term.specs.Lexeme.{is_word, is_decimal, is_reserved, is_one_of}
 use Rattle.js_term.specs.Scope.{Role, role, kid, body_names, module_scope, names_in}
 

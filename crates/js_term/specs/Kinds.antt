@@ -1,113 +1,12 @@
--- Kinds of node, compared and listed.
-use Rattle.std.specs.Prelude.{ℕ, List, [], ◌∷◌, Bool, false, ◌||◌, nat_eq}
-use Rattle.js_term.specs.Term.{Kind}
+-- Kinds of node, compared.
+use denote.Enum.Bare.{sameb}
+use Rattle.std.specs.Prelude.{List, [], ◌∷◌, Bool, false, ◌||◌}
+use Rattle.js_term.specs.declared.kind.Kind.{Kind}
+use Rattle.js_term.specs.contracts.kind.Kind.{the_type}
 
--- the place of a kind in the list of all kinds
-abbrev pub number : Kind → ℕ
-number Kind.Program = 0
-number Kind.Directive = 1
-number Kind.BlockStatement = 2
-number Kind.BreakStatement = 3
-number Kind.ContinueStatement = 4
-number Kind.DebuggerStatement = 5
-number Kind.DoWhileStatement = 6
-number Kind.EmptyStatement = 7
-number Kind.ExpressionStatement = 8
-number Kind.ForInStatement = 9
-number Kind.ForOfStatement = 10
-number Kind.ForStatement = 11
-number Kind.IfStatement = 12
-number Kind.LabeledStatement = 13
-number Kind.ReturnStatement = 14
-number Kind.SwitchStatement = 15
-number Kind.SwitchCase = 16
-number Kind.ThrowStatement = 17
-number Kind.TryStatement = 18
-number Kind.CatchClause = 19
-number Kind.CatchParameter = 20
-number Kind.WhileStatement = 21
-number Kind.VariableDeclaration = 22
-number Kind.VariableDeclarator = 23
-number Kind.FunctionDeclaration = 24
-number Kind.ClassDeclaration = 25
-number Kind.ImportDeclaration = 26
-number Kind.ImportSpecifier = 27
-number Kind.ImportDefaultSpecifier = 28
-number Kind.ImportNamespaceSpecifier = 29
-number Kind.ExportAllDeclaration = 30
-number Kind.ExportNamedDeclaration = 31
-number Kind.ExportFromDeclaration = 32
-number Kind.ExportSpecifier = 33
-number Kind.ExportDeclaration = 34
-number Kind.ExportDefaultDeclaration = 35
-number Kind.FunctionExpression = 36
-number Kind.FormalParameters = 37
-number Kind.FormalParameter = 38
-number Kind.FormalParameterRest = 39
-number Kind.FunctionBody = 40
-number Kind.ClassExpression = 41
-number Kind.ClassBody = 42
-number Kind.StaticBlock = 43
-number Kind.MethodDefinition = 44
-number Kind.PropertyDefinition = 45
-number Kind.BindingIdentifier = 46
-number Kind.ObjectPattern = 47
-number Kind.BindingProperty = 48
-number Kind.ArrayPattern = 49
-number Kind.AssignmentPattern = 50
-number Kind.BindingRestElement = 51
-number Kind.ArrayAssignmentTarget = 52
-number Kind.ObjectAssignmentTarget = 53
-number Kind.AssignmentTargetProperty = 54
-number Kind.AssignmentTargetWithDefault = 55
-number Kind.AssignmentTargetRest = 56
-number Kind.IdentifierName = 57
-number Kind.PrivateIdentifier = 58
-number Kind.LabelIdentifier = 59
-number Kind.Identifier = 60
-number Kind.StringLiteral = 61
-number Kind.NumericLiteral = 62
-number Kind.BigIntLiteral = 63
-number Kind.BooleanLiteral = 64
-number Kind.NullLiteral = 65
-number Kind.RegExpLiteral = 66
-number Kind.TemplateLiteral = 67
-number Kind.TemplateElement = 68
-number Kind.ThisExpression = 69
-number Kind.Super = 70
-number Kind.ImportMeta = 71
-number Kind.NewTarget = 72
-number Kind.ParenthesizedExpression = 73
-number Kind.ArrayExpression = 74
-number Kind.SpreadElement = 75
-number Kind.ObjectExpression = 76
-number Kind.ObjectProperty = 77
-number Kind.SequenceExpression = 78
-number Kind.AssignmentExpression = 79
-number Kind.ArrowFunctionExpression = 80
-number Kind.YieldExpression = 81
-number Kind.ConditionalExpression = 82
-number Kind.LogicalExpression = 83
-number Kind.BinaryExpression = 84
-number Kind.PrivateInExpression = 85
-number Kind.UnaryExpression = 86
-number Kind.AwaitExpression = 87
-number Kind.UpdateExpression = 88
-number Kind.ChainExpression = 89
-number Kind.CallExpression = 90
-number Kind.ImportExpression = 91
-number Kind.StaticMemberExpression = 92
-number Kind.ComputedMemberExpression = 93
-number Kind.PrivateFieldExpression = 94
-number Kind.TaggedTemplateExpression = 95
-number Kind.NewExpression = 96
-number Kind.Namespace = 97
-number Kind.Local = 98
-number Kind.Arguments = 99
-number Kind.Global = 100
-
+-- two kinds are one: what `==` of the declared kinds answers
 abbrev pub is_kind : Kind → Kind → Bool
-is_kind k j = nat_eq (number k) (number j)
+is_kind = sameb the_type
 
 abbrev pub is_among : Kind → List Kind → Bool
 is_among k [] = false

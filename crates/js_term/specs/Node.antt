@@ -1,6 +1,7 @@
 -- The node of each kind by its parts, in the order in which they stand in a text.
 use Rattle.std.specs.Prelude.{List, [], ◌∷◌, Bool, true, false, codes}
-use Rattle.js_term.specs.Term.{Text, Kind, Term, absent, list, node, Terms, none, more, one, two}
+use Rattle.js_term.specs.Term.{Text, Term, absent, list, node, Terms, none, more, one, two}
+use Rattle.js_term.specs.declared.kind.Kind.TheVariants as Kind
 
 abbrev pub identifier_of : Text → Term
 identifier_of x = node Kind.Identifier (x ∷ []) none

@@ -2,7 +2,9 @@
 -- ECMAScript 8.2 (BoundNames, LexicallyDeclaredNames, VarDeclaredNames), 9.1 (environments), 10.2.11 (the
 -- environment of a function call) and 9.1.2.1 (GetIdentifierReference).
 use Rattle.std.specs.Prelude.{ℕ, zero, suc, List, [], ◌∷◌, ◌++◌, length, Option, None, Some, Bool, true, false, cond, codes}
-use Rattle.js_term.specs.Term.{Text, is_text, Kind, Term, absent, list, node, Terms, none, more, first, rest, items, kids_of, text_of}
+use Rattle.js_term.specs.Term.{Text, is_text, Term, absent, list, node, Terms, none, more, first, rest, items, kids_of, text_of}
+use Rattle.js_term.specs.declared.kind.Kind.{Kind}
+use Rattle.js_term.specs.declared.kind.Kind.TheVariants as Kind
 
 -- The part that a kind plays in scoping. A new kind of an old part adds one row to `role`.
 pub data Role : Type 0 where

@@ -3,7 +3,9 @@
 -- front the part stands behind a gap, and the rest that it leaves. Every semicolon is written, and there are no
 -- trailing commas and no comments. Which further forms the language has, later constructors say.
 use Rattle.std.specs.Prelude.{◌≡◌, ◌≤◌, ℕ, List, [], ◌∷◌, Bool, true, false, cond, nat_eq, codes}
-use Rattle.js_term.specs.Term.{Text, Kind, Term, absent, list, node, Terms, none, more, all}
+use Rattle.js_term.specs.Term.{Text, Term, absent, list, node, Terms, none, more, all}
+use Rattle.js_term.specs.declared.kind.Kind.{Kind}
+use Rattle.js_term.specs.declared.kind.Kind.TheVariants as Kind
 use Rattle.js_term.specs.Lexeme.{Manner, Token, AtEnd, word, number, string, left_brace, right_brace, left_paren, right_paren, left_bracket, right_bracket, comma, semicolon, dot, colon, equals, is_reserved, same_line, opens_otherwise}
 use Rattle.js_term.specs.Node.{identifier_of, string_of, number_of, truth, boolean_of, call_of, member_of, sequence_of, await_of, array_of, object_of, parenthesized_of, property_of, method_property_of, function_of, const_of, return_of, statement_of, specifier_of, import_declaration_of, export_declaration_of, program_of}
 

@@ -1,6 +1,8 @@
 -- A syntax tree as it is compared: kinds, texts and kids, without spans and ids.
 use Rattle.std.specs.Prelude.{ℕ, suc, max, List, [], ◌∷◌, Option, None, Some, Bool, true, false, nat_eq}
 use Rattle.std.specs.Cmp.Lexicographic.{pointwise}
+use Rattle.js_term.specs.declared.kind.Kind.{Kind}
+use Rattle.js_term.specs.declared.kind.Kind.TheVariants as Kind
 
 -- the bytes of a text, in UTF-8
 abbrev pub Text : Type 0
@@ -8,110 +10,6 @@ Text = List ℕ
 
 abbrev pub is_text : Text → Text → Bool
 is_text = pointwise nat_eq
-
--- The kinds of node, by their names in ESTree and oxc; the last four are what a reference stands for.
-pub data Kind : Type 0 where
-  Program : Kind
-  Directive : Kind
-  BlockStatement : Kind
-  BreakStatement : Kind
-  ContinueStatement : Kind
-  DebuggerStatement : Kind
-  DoWhileStatement : Kind
-  EmptyStatement : Kind
-  ExpressionStatement : Kind
-  ForInStatement : Kind
-  ForOfStatement : Kind
-  ForStatement : Kind
-  IfStatement : Kind
-  LabeledStatement : Kind
-  ReturnStatement : Kind
-  SwitchStatement : Kind
-  SwitchCase : Kind
-  ThrowStatement : Kind
-  TryStatement : Kind
-  CatchClause : Kind
-  CatchParameter : Kind
-  WhileStatement : Kind
-  VariableDeclaration : Kind
-  VariableDeclarator : Kind
-  FunctionDeclaration : Kind
-  ClassDeclaration : Kind
-  ImportDeclaration : Kind
-  ImportSpecifier : Kind
-  ImportDefaultSpecifier : Kind
-  ImportNamespaceSpecifier : Kind
-  ExportAllDeclaration : Kind
-  ExportNamedDeclaration : Kind
-  ExportFromDeclaration : Kind
-  ExportSpecifier : Kind
-  ExportDeclaration : Kind
-  ExportDefaultDeclaration : Kind
-  FunctionExpression : Kind
-  FormalParameters : Kind
-  FormalParameter : Kind
-  FormalParameterRest : Kind
-  FunctionBody : Kind
-  ClassExpression : Kind
-  ClassBody : Kind
-  StaticBlock : Kind
-  MethodDefinition : Kind
-  PropertyDefinition : Kind
-  BindingIdentifier : Kind
-  ObjectPattern : Kind
-  BindingProperty : Kind
-  ArrayPattern : Kind
-  AssignmentPattern : Kind
-  BindingRestElement : Kind
-  ArrayAssignmentTarget : Kind
-  ObjectAssignmentTarget : Kind
-  AssignmentTargetProperty : Kind
-  AssignmentTargetWithDefault : Kind
-  AssignmentTargetRest : Kind
-  IdentifierName : Kind
-  PrivateIdentifier : Kind
-  LabelIdentifier : Kind
-  Identifier : Kind
-  StringLiteral : Kind
-  NumericLiteral : Kind
-  BigIntLiteral : Kind
-  BooleanLiteral : Kind
-  NullLiteral : Kind
-  RegExpLiteral : Kind
-  TemplateLiteral : Kind
-  TemplateElement : Kind
-  ThisExpression : Kind
-  Super : Kind
-  ImportMeta : Kind
-  NewTarget : Kind
-  ParenthesizedExpression : Kind
-  ArrayExpression : Kind
-  SpreadElement : Kind
-  ObjectExpression : Kind
-  ObjectProperty : Kind
-  SequenceExpression : Kind
-  AssignmentExpression : Kind
-  ArrowFunctionExpression : Kind
-  YieldExpression : Kind
-  ConditionalExpression : Kind
-  LogicalExpression : Kind
-  BinaryExpression : Kind
-  PrivateInExpression : Kind
-  UnaryExpression : Kind
-  AwaitExpression : Kind
-  UpdateExpression : Kind
-  ChainExpression : Kind
-  CallExpression : Kind
-  ImportExpression : Kind
-  StaticMemberExpression : Kind
-  ComputedMemberExpression : Kind
-  PrivateFieldExpression : Kind
-  TaggedTemplateExpression : Kind
-  NewExpression : Kind
-  Namespace : Kind
-  Local : Kind
-  Arguments : Kind
-  Global : Kind
 
 mutual
   -- a part that is not there, a list of parts, or a node with its texts and its kids

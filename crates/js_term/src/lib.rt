@@ -5,6 +5,10 @@
 
 ghost use Rattle.js_term.specs.Examples.{Examples};
 
+mod kind;
+
+pub use kind::{Kind, is_kind};
+
 /// At small modules the definitions say what their pages say.
 #[tactic(auto, using(crate::proofs::Derived::examples))]
 pub fn worked_examples()

@@ -1,7 +1,8 @@
 -- What a tree declares stays when its references are written anew, and is made of names that pass the test.
 use Rattle.std.proofs.Common.{◌≡◌, refl, ℕ, zero, suc, List, [], Bool, true}
 use Rattle.std.proofs.lemmas.Bool.{and_parts}
-use Rattle.js_term.specs.Term.{Text, Kind, Term, absent, list, node, Terms, none, more, first, rest}
+use Rattle.js_term.specs.Term.{Text, Term, absent, list, node, Terms, none, more, first, rest}
+use Rattle.js_term.specs.declared.kind.Kind.{Kind}
 use Rattle.js_term.specs.Scope.{Role, role, Env, declared, declared_all, declared_first, declares, kid, inner}
 use Rattle.js_term.specs.Form.{is_small_name}
 use Rattle.module_model.specs.Resolved.{read, read_kids, finished}

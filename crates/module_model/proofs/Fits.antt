@@ -1,7 +1,9 @@
 -- Trees by the tables of places.
 use Rattle.std.proofs.Common.{◌≡◌, refl, sym, List, [], ◌∷◌, Bool, true, false, ◌&&◌}
 use Rattle.std.proofs.lemmas.Bool.{and_parts, and_from}
-use Rattle.js_term.specs.Term.{Text, Kind, Term, absent, list, node, Terms, none, more, append, items, first, strip, strip_all, unwrapped}
+use Rattle.js_term.specs.Term.{Text, Term, absent, list, node, Terms, none, more, append, items, first, strip, strip_all, unwrapped}
+use Rattle.js_term.specs.declared.kind.Kind.{Kind}
+use Rattle.js_term.specs.declared.kind.Kind.TheVariants as Kind
 use Rattle.js_term.specs.Scope.{kid}
 use Rattle.js_term.specs.Form.{Sort, Place, one, some, nowhere, takes_list, item_place, first_place, later_places, takes_kind, fits, fits_each, fits_places, one_text}
 use Rattle.js_term.specs.Kinds.{is_kind}

@@ -2,7 +2,9 @@
 use Rattle.std.proofs.Common.{◌≡◌, refl, sym, subst, ℕ, zero, suc, ◌+◌, List, [], ◌∷◌, length, Option, None, Some, Bool, true, false, not, ◌&&◌, ◌||◌, cond}
 use Rattle.std.specs.List.{list_all}
 use Rattle.std.proofs.lemmas.Bool.{and_parts, and_from, not-true}
-use Rattle.js_term.specs.Term.{Text, Kind, Term, absent, list, node, Terms, none, more, append, first, strip}
+use Rattle.js_term.specs.Term.{Text, Term, absent, list, node, Terms, none, more, append, first, strip}
+use Rattle.js_term.specs.declared.kind.Kind.{Kind}
+use Rattle.js_term.specs.declared.kind.Kind.TheVariants as Kind
 use Rattle.js_term.specs.Lexeme.{is_word}
 use Rattle.js_term.specs.Scope.{Role, role, Env, Entry, here, arguments_object, imported, import_of, global, found, entry_of, call_scope, plainly, parameter_names, body_names, inner, all_brought, declared_all, module_env}
 use Rattle.js_term.specs.Form.{Sort, Place, one, nothing, many, some, single, several, empty, nowhere, takes_list, item_place, first_place, later_places, takes_kind, fits, fits_each, fits_places, stands_small, stands_printable, is_written_expression, is_binding_name, is_small_name, is_small_binding, one_text, allows, places, is_printable, is_small, has_small_form, has_distinct_names, items_of}

@@ -1,7 +1,8 @@
 -- A tree as it is written for the runner is read as the tree.
 use Rattle.std.proofs.Common.{◌≡◌, refl, sym, ap, ℕ, suc, List, Bool, true, false, ◌&&◌, cond, None, Some}
 use Rattle.std.proofs.lemmas.Bool.{and_parts, and_from}
-use Rattle.js_term.specs.Term.{Text, Kind, Term, absent, list, node, Terms, none, more, first, head, rest}
+use Rattle.js_term.specs.Term.{Text, Term, absent, list, node, Terms, none, more, first, head, rest}
+use Rattle.js_term.specs.declared.kind.Kind.{Kind}
 use Rattle.js_term.specs.Scope.{Role, role, Env, Answer, import_of, local, arguments_of, global, resolve, inner}
 use Rattle.module_model.specs.Shape.{detached}
 use Rattle.module_model.specs.Resolved.{read_kids, finished, with_callee, in_callee, is_reference, is_member, answered, of_answer, resolved_each}

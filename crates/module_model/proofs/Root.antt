@@ -1,7 +1,9 @@
 -- The environment of a module and that of its output.
 use Rattle.std.proofs.Common.{◌≡◌, refl, sym, subst, ℕ, suc, ◌+◌, ◌<◌, ◌≤◌, ◌^◌, arith, List, [], ◌∷◌, ◌++◌, length, length-append, append_assoc, append-nil, Option, None, Some, true, false, cond}
 use Rattle.std.proofs.lemmas.Bool.{and_parts, and_from}
-use Rattle.js_term.specs.Term.{Text, is_text, Kind, Term, absent, list, node, Terms, none, more, append, items, kids_of, text_of}
+use Rattle.js_term.specs.Term.{Text, is_text, Term, absent, list, node, Terms, none, more, append, items, kids_of, text_of}
+use Rattle.js_term.specs.declared.kind.Kind.{Kind}
+use Rattle.js_term.specs.declared.kind.Kind.TheVariants as Kind
 use Rattle.js_term.specs.Lexeme.{is_word}
 use Rattle.js_term.specs.Scope.{Role, role, Env, Scope, Entry, here, arguments_object, imported, Answer, import_of, global, found, entry_of, plainly, declared, declared_all, declared_first, declares, kid, bound_by, brings, brought, is_request, past, all_brought}
 use Rattle.js_term.specs.Form.{Sort, one, some, stands_small, places, is_small_name}

@@ -2,7 +2,9 @@
 use Rattle.std.proofs.Common.{◌≡◌, refl, sym, subst, List, [], ◌∷◌, Bool, true, false, not, ◌&&◌, ◌||◌}
 use Rattle.std.specs.List.{list_all}
 use Rattle.std.proofs.lemmas.Bool.{and_parts, and_from, not-true}
-use Rattle.js_term.specs.Term.{Text, Kind, Term, absent, list, node, Terms, none, more, append, items, first}
+use Rattle.js_term.specs.Term.{Text, Term, absent, list, node, Terms, none, more, append, items, first}
+use Rattle.js_term.specs.declared.kind.Kind.{Kind}
+use Rattle.js_term.specs.declared.kind.Kind.TheVariants as Kind
 use Rattle.js_term.specs.Scope.{Role, role, kid}
 use Rattle.js_term.specs.Form.{Sort, Place, one, many, some, single, several, empty, takes_list, item_place, first_place, later_places, takes_kind, fits, fits_each, fits_places, stands_small, allows, places, property_places, no_texts, is_small_name, is_small_binding, has_small_form, items_of, is_item, is_declaration}
 use Rattle.js_term.specs.Kinds.{is_kind}

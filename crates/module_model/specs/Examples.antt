@@ -1,6 +1,7 @@
 -- Small modules, with what they mean and what the runner is given for them.
 use Rattle.std.specs.Prelude.{◌≡◌, List, [], ◌∷◌, None, Some, true, false, codes}
-use Rattle.js_term.specs.Term.{Text, Kind, Term, Terms, node, none, more, one, two}
+use Rattle.js_term.specs.Term.{Text, Term, Terms, node, none, more, one, two}
+use Rattle.js_term.specs.declared.kind.Kind.TheVariants as Kind
 use Rattle.js_term.specs.Node.{identifier_of, string_of, number_of, call_of, member_of, await_of, array_of, object_of, property_of, const_of, return_of, statement_of, function_of, specifier_of, import_declaration_of, export_declaration_of, program_of}
 use Rattle.js_term.specs.Form.{is_small}
 use Rattle.module_model.specs.Shape.{detached, getter}

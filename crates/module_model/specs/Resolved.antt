@@ -1,7 +1,9 @@
 -- A tree with each reference read as what it stands for.
 -- ECMAScript 9.1.2.1 (GetIdentifierReference) and 13.3.6.1 (a call of an imported name has no `this`).
 use Rattle.std.specs.Prelude.{ℕ, suc, List, [], ◌∷◌, None, Some, Bool, true, false, cond, ◌&&◌, decimal}
-use Rattle.js_term.specs.Term.{Text, Kind, Term, absent, list, node, Terms, none, more, first, strip}
+use Rattle.js_term.specs.Term.{Text, Term, absent, list, node, Terms, none, more, first, strip}
+use Rattle.js_term.specs.declared.kind.Kind.{Kind}
+use Rattle.js_term.specs.declared.kind.Kind.TheVariants as Kind
 use Rattle.js_term.specs.Scope.{Role, role, Env, Answer, import_of, local, arguments_of, global, resolve, inner}
 use Rattle.js_term.specs.Node.{member_of}
 use Rattle.module_model.specs.Shape.{detached}

@@ -1,6 +1,7 @@
 -- The tree that the module runner writes for a small module.
 use Rattle.std.specs.Prelude.{ℕ, suc, List, [], ◌∷◌, None, Some}
-use Rattle.js_term.specs.Term.{Text, Kind, Term, list, node, Terms, none, more, append, two}
+use Rattle.js_term.specs.Term.{Text, Term, list, node, Terms, none, more, append, two}
+use Rattle.js_term.specs.declared.kind.Kind.TheVariants as Kind
 use Rattle.js_term.specs.Scope.{Env, Answer, local, arguments_of, global, import_of, resolve, module_env}
 use Rattle.js_term.specs.Form.{items_of}
 use Rattle.js_term.specs.Node.{identifier_of, member_of}

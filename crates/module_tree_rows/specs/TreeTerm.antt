@@ -1,7 +1,6 @@
 -- The term of a table of parts, each of which has its own parts by their numbers.
 use Rattle.std.specs.Prelude.{ℕ, zero, suc, ◌-◌, List, [], ◌∷◌, Option, None, Some, map, length, slice_get}
 use Rattle.js_term.specs.Term.{Term, absent, list, node, Terms, none, more}
-use Rattle.js_rules.specs.KindOf.{kind_of}
 use Rattle.module_tree_rows.specs.declared.tree.Part.{Part}
 use Rattle.module_tree_rows.specs.declared.tree.Part.TheVariants as part
 use Rattle.module_tree_rows.specs.declared.tree.Tree.{Tree}
@@ -15,7 +14,7 @@ abbrev pub part_term : (ℕ → Term) → Option Part → Term
 part_term term_of None = absent
 part_term term_of (Some part.Absent) = absent
 part_term term_of (Some (part.List ns)) = list (terms_by term_of ns.items)
-part_term term_of (Some (part.Node n)) = node (kind_of n.kind) (map (λ x. x.now) n.texts.items) (terms_by term_of n.parts.items)
+part_term term_of (Some (part.Node n)) = node n.kind (map (λ x. x.now) n.texts.items) (terms_by term_of n.parts.items)
 
 -- the part numbered n, down to a depth: what lies deeper, and what the table lacks, is absent
 abbrev pub term_at : ℕ → List Part → ℕ → Term

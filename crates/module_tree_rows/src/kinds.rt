@@ -1,4 +1,4 @@
-use js_rules::Kind;
+use js_term::Kind;
 
 /// The kinds of node by their names.
 static KINDS: [(&str, Kind); 97] = [

@@ -2,7 +2,7 @@
 
 use crate::kinds::kind_named;
 use crate::tree::{Node, Part, Tree};
-use js_rules::Kind;
+use js_term::Kind;
 use std::alloc::{AllocError, Global};
 use std::mem;
 use thiserror::Error;

@@ -1,4 +1,4 @@
-use js_rules::Kind;
+use js_term::Kind;
 
 /// What stands at a place of a tree. Its parts are numbers of the tree's parts.
 #[derive(Drop)]

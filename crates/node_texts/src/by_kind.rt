@@ -3,8 +3,7 @@
 ghost use Rattle.std.specs.Prelude.{◌≡◌, ◌∷◌, [], ◌&&◌, true, map, nat_eq, length};
 ghost use Rattle.js_syntax.specs.Texts.{flag, literal_tests, operator_tests, tests, pass, is_head, has_texts};
 ghost use Rattle.js_syntax.specs.Parts.{text_at};
-ghost use Rattle.js_term.specs.Term.{ObjectProperty, MethodDefinition};
-ghost use Rattle.js_rules.specs.KindOf.{kind_of};
+ghost use Rattle.js_term.specs.declared.kind.Kind.TheVariants.{ObjectProperty, MethodDefinition};
 
 use crate::flags::is_regexp_flags;
 use crate::texts::text_at;
@@ -53,7 +52,7 @@ fn flag_at(texts: &[&str], n: usize, set: &str) -> bool
 }
 
 fn has_literal<L: Lexicon>(kind: Kind, texts: &[&str]) -> bool
-    ensures { result ≡ pass (literal_tests (kind_of kind)) (map (λ x. x.now) texts.now) }
+    ensures { result ≡ pass (literal_tests kind) (map (λ x. x.now) texts.now) }
 {
     let first = text_at(texts, 0);
     match kind {
@@ -77,7 +76,7 @@ fn has_literal<L: Lexicon>(kind: Kind, texts: &[&str]) -> bool
 }
 
 fn has_operator<L: Lexicon>(kind: Kind, texts: &[&str]) -> bool
-    ensures { result ≡ pass (operator_tests (kind_of kind)) (map (λ x. x.now) texts.now) }
+    ensures { result ≡ pass (operator_tests kind) (map (λ x. x.now) texts.now) }
 {
     let first = text_at(texts, 0);
     match kind {
@@ -130,7 +129,7 @@ fn is_one_flag(texts: &[&str], set: &str) -> bool
 }
 
 fn passes_tests<L: Lexicon>(kind: Kind, texts: &[&str]) -> bool
-    ensures { result ≡ pass (tests (kind_of kind)) (map (λ x. x.now) texts.now) }
+    ensures { result ≡ pass (tests kind) (map (λ x. x.now) texts.now) }
 {
     match kind {
         Kind::ForOfStatement => is_one_flag(texts, "await"),
@@ -161,7 +160,7 @@ fn is_head<L: Lexicon>(texts: &[&str]) -> bool
 
 /// Whether a node of this kind has such texts.
 pub fn has_texts<L: Lexicon>(kind: Kind, texts: &[&str]) -> bool
-    ensures { result ≡ has_texts (kind_of kind) (map (λ x. x.now) texts.now) }
+    ensures { result ≡ has_texts kind (map (λ x. x.now) texts.now) }
 {
     match kind {
         Kind::Program => is_head::<L>(texts),

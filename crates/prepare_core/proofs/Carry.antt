@@ -2,7 +2,9 @@
 use Rattle.std.proofs.Common.{◌≡◌, refl, sym, ◌∙◌, ap, ℕ, zero, suc, List, [], ◌∷◌, ◌++◌, Option, None, Some, Bool, true, false, ◌||◌, cond, map, codes, length}
 use Rattle.std.specs.Prelude.{option_map}
 use Rattle.std.specs.HashSet.{HashSet}
-use Rattle.js_term.specs.Term.{Text, Term, Terms, Kind, absent, list, node, none, more, two, all, maybe, flag, is_text, first}
+use Rattle.js_term.specs.Term.{Text, Term, Terms, absent, list, node, none, more, two, all, maybe, flag, is_text, first}
+use Rattle.js_term.specs.declared.kind.Kind.{Kind}
+use Rattle.js_term.specs.declared.kind.Kind.TheVariants as Kind
 use Rattle.js_term.specs.Lexeme.{is_one_of}
 use Rattle.js_term.specs.Scope.{Role, role, Env, Scope, Entry, here, arguments_object, imported, plainly, call_scope, entry_of, found, resolve, inner, function_env, body_names, parameter_names}
 use Rattle.small_tree.specs.TermOf.{binding_term, pattern_term, parameter_term, parameters_term, directive_term, statement_term, function_term, function_word}

@@ -2,7 +2,9 @@
 use Rattle.std.proofs.Common.{◌≡◌, refl, sym, ◌∙◌, ap, ℕ, suc, List, [], ◌∷◌, Bool, true, false, not, ◌&&◌, ◌||◌}
 use Rattle.std.specs.List.{list_all}
 use Rattle.std.proofs.lemmas.Bool.{and_parts, and_from}
-use Rattle.js_term.specs.Term.{Text, Kind, Term, absent, list, node, Terms, none, more, append}
+use Rattle.js_term.specs.Term.{Text, Term, absent, list, node, Terms, none, more, append}
+use Rattle.js_term.specs.declared.kind.Kind.{Kind}
+use Rattle.js_term.specs.declared.kind.Kind.TheVariants as Kind
 use Rattle.js_term.specs.Scope.{Role, role, Env, inner, is_request}
 use Rattle.js_term.specs.Form.{Sort, Place, one, many, some, single, several, item_place, first_place, later_places, takes_list, stands_small, places, is_item}
 use Rattle.module_model.specs.Meaning.{keeps, kept, all_kept}

@@ -2,7 +2,9 @@
 -- `rewritten` in two forms that small modules have not: a property loses its mark of shorthand, and an import inside a
 -- function stays as it is.
 use Rattle.std.specs.Prelude.{ℕ, suc, List, [], ◌∷◌, map, option_map, Bool, true, false, ◌&&◌, codes}
-use Rattle.js_term.specs.Term.{Text, Kind, Term, absent, list, node, Terms, none, more, two, all, maybe, flag}
+use Rattle.js_term.specs.Term.{Text, Term, absent, list, node, Terms, none, more, two, all, maybe, flag}
+use Rattle.js_term.specs.declared.kind.Kind.{Kind}
+use Rattle.js_term.specs.declared.kind.Kind.TheVariants as Kind
 use Rattle.js_term.specs.Scope.{role, Env, inner}
 use Rattle.small_tree.specs.TermOf.{binding_term, pattern_term, parameters_term, directive_term, name_term, function_word, property_word}
 use Rattle.small_tree.specs.declared.expression.CallExpression.{CallExpression}

@@ -2,7 +2,9 @@
 -- generated fold.
 use Rattle.std.proofs.Common.{◌≡◌, refl, sym, subst, ap, ◌∙◌, List, [], ◌∷◌, Option, None, Some, map, codes}
 use Rattle.std.specs.Prelude.{option_map}
-use Rattle.js_term.specs.Term.{Text, Term, Kind, list, node, Terms, more, one, two, all, maybe, flag}
+use Rattle.js_term.specs.Term.{Text, Term, list, node, Terms, more, one, two, all, maybe, flag}
+use Rattle.js_term.specs.declared.kind.Kind.{Kind}
+use Rattle.js_term.specs.declared.kind.Kind.TheVariants as Kind
 use Rattle.small_tree.specs.TermOf.{itself, reference_term, binding_term, string_term, number_term, boolean_term, pattern_term, parameters_term, import_term, variable_word, call_term, member_term, sequence_term, await_term, array_term, property_term, object_term, parenthesized_term, body_term, variables_term, return_term, effect_term, export_term, function_word, expression_level, declaration_level, statement_level, function_level, declarator_level, expression_step, declaration_step, statement_step, function_step, declarator_step, expression_term, declaration_term, statement_term, function_term, declarator_term}
 use Rattle.small_tree.specs.declared.id.Span.{Span}
 use Rattle.small_tree.specs.declared.id.IdentifierReference.{IdentifierReference}

@@ -1,6 +1,8 @@
 -- The term of each node: its kind, its texts and its kids, in the order of the node's fields.
 use Rattle.std.specs.Prelude.{List, [], ◌∷◌, Option, None, Some, option_map, map, Bool, true, false, codes}
-use Rattle.js_term.specs.Term.{Text, is_text, Kind, Term, absent, list, node, none, more, one, two, all, maybe, flag}
+use Rattle.js_term.specs.Term.{Text, is_text, Term, absent, list, node, none, more, one, two, all, maybe, flag}
+use Rattle.js_term.specs.declared.kind.Kind.{Kind}
+use Rattle.js_term.specs.declared.kind.Kind.TheVariants as Kind
 use Rattle.js_term.specs.Node.{truth}
 use Rattle.small_tree.specs.declared.id.IdentifierName.{IdentifierName}
 use Rattle.small_tree.specs.declared.id.IdentifierReference.{IdentifierReference}

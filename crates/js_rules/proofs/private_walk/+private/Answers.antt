@@ -1,9 +1,9 @@
-use Rattle.std.proofs.Common.{rules, ◌≡◌, ◌<◌, ◌+◌, ◌*◌, true, List, sym, ap, ◌∙◌, arith}
-use Rattle.js_term.specs.Term.{Text, Kind, Term}
+use Rattle.std.proofs.Common.{rules, ◌≡◌, ◌<◌, ◌+◌, ◌*◌, true, false, true≢false, List, sym, ap, ◌∙◌, arith}
+use Rattle.js_term.specs.Term.{Text, Term}
+use Rattle.js_term.specs.declared.kind.Kind.TheVariants as Kind
 use Rattle.js_term.specs.Kinds.{is_kind}
 use Rattle.js_syntax.specs.Parts.{count, parts_of, texts_of, text_at}
 use Rattle.js_syntax.specs.ModuleTree.{is_declared}
-use Rattle.js_rules.specs.KindOf.{kind_of}
 use Rattle.js_rules.specs.OuterSeen.{declared_names, terms_of, parts_have_private_names}
 use Rattle.js_rules.proofs.Rolled.{rolled}
 use Rattle.js_rules.specs.Seen.{size}
@@ -39,11 +39,11 @@ has_private_names-returns-in-List g t c = of_list _ _ _ _ c.in-List.ensures c.pa
 pub has_private_names-returns-then-is_class : goal.has_private_names-returns-then-is_class
 has_private_names-returns-then-is_class g t c =
     let names = declared_names (terms_of g.V.View.term c.args.classes) in
-    let declared : is_kind (kind_of c.in-Node.kind) Kind.PrivateIdentifier ≡ true → is_declared (text_at 0 (texts_of (g.V.View.term c.args.view))) names ≡ true = elim c.else-is_kind.branch [ has_private_names-else-is_kind-via-then-is_kind+else-not-is_declared w ↦ λ h. sym (ap (λ (x : Text). is_declared x names) w.text.ensures) ∙ (sym w.is_declared.ensures ∙ w.if-not-is_declared.false) | has_private_names-else-is_kind-via-else-is_kind w ↦ λ h. cc ] in
+    let declared : is_kind c.in-Node.kind Kind.PrivateIdentifier ≡ true → is_declared (text_at 0 (texts_of (g.V.View.term c.args.view))) names ≡ true = elim c.else-is_kind.branch [ has_private_names-else-is_kind-via-then-is_kind+else-not-is_declared w ↦ λ h. sym (ap (λ (x : Text). is_declared x names) w.text.ensures) ∙ (sym w.is_declared.ensures ∙ w.if-not-is_declared.false) | has_private_names-else-is_kind-via-else-is_kind w ↦ λ h. absurd (true≢false (sym h ∙ sym c.is_kind.ensures ∙ w.if-is_kind.false)) ] in
     c.parts_have_private_names-then-is_class.ensures ∙ (ap (λ (us : List Term). parts_have_private_names (declared_names us) (parts_of (g.V.View.term c.args.view))) (rolled g.V.View.term c.args.view c.args.classes) ∙ sym (of_class names _ _ _ _ c.in-Node.ensures declared (sym c.is_class.ensures ∙ c.if-is_class.true)))
 
 pub has_private_names-returns-else-is_class : goal.has_private_names-returns-else-is_class
 has_private_names-returns-else-is_class g t c =
     let names = declared_names (terms_of g.V.View.term c.args.classes) in
-    let declared : is_kind (kind_of c.in-Node.kind) Kind.PrivateIdentifier ≡ true → is_declared (text_at 0 (texts_of (g.V.View.term c.args.view))) names ≡ true = elim c.else-is_kind.branch [ has_private_names-else-is_kind-via-then-is_kind+else-not-is_declared w ↦ λ h. sym (ap (λ (x : Text). is_declared x names) w.text.ensures) ∙ (sym w.is_declared.ensures ∙ w.if-not-is_declared.false) | has_private_names-else-is_kind-via-else-is_kind w ↦ λ h. cc ] in
+    let declared : is_kind c.in-Node.kind Kind.PrivateIdentifier ≡ true → is_declared (text_at 0 (texts_of (g.V.View.term c.args.view))) names ≡ true = elim c.else-is_kind.branch [ has_private_names-else-is_kind-via-then-is_kind+else-not-is_declared w ↦ λ h. sym (ap (λ (x : Text). is_declared x names) w.text.ensures) ∙ (sym w.is_declared.ensures ∙ w.if-not-is_declared.false) | has_private_names-else-is_kind-via-else-is_kind w ↦ λ h. absurd (true≢false (sym h ∙ sym c.is_kind.ensures ∙ w.if-is_kind.false)) ] in
     c.parts_have_private_names-else-is_class.ensures ∙ sym (of_other names _ _ _ _ c.in-Node.ensures declared (sym c.is_class.ensures ∙ c.if-is_class.false))

@@ -1,5 +1,5 @@
 use Rattle.std.proofs.Common.{◌≡◌, ◌<◌, ◌≤◌, sym, ap, ◌∙◌, arith}
-use Rattle.js_term.specs.Term.{ImportSpecifier}
+use Rattle.js_term.specs.declared.kind.Kind.TheVariants.{ImportSpecifier}
 use Rattle.js_term.specs.Scope.{kid}
 use Rattle.js_syntax.specs.Parts.{count, parts_of, is_node}
 use Rattle.js_rules.proofs.Parts.{each_fails, each_next, each_ends}

@@ -1,5 +1,5 @@
 use Rattle.std.proofs.Common.{◌≡◌}
-use Rattle.js_term.specs.Term.{ImportSpecifier}
+use Rattle.js_term.specs.declared.kind.Kind.TheVariants.{ImportSpecifier}
 use Rattle.js_syntax.specs.Parts.{parts_of, each, is_node}
 use Rattle.js_rules.specs.Seen.{from}
 use Rattle.js_rules.proofs.sentences.are_named.Given as goal

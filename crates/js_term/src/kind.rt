@@ -1,9 +1,9 @@
 ghost use Rattle.std.specs.Prelude.{◌≡◌};
-ghost use Rattle.js_term.specs.Kinds.{number, is_kind};
-ghost use Rattle.js_rules.specs.KindOf.{kind_of};
+ghost use Rattle.js_term.specs.Kinds.{is_kind};
 
-/// The kinds of node, by their names in oxc.
-#[derive(Clone, Copy)]
+/// The kinds of node, by their names in ESTree and oxc. The last four stand in resolved terms alone, for what a
+/// reference means; no tree has them.
+#[derive(Clone, Copy, Debug, PartialEq, Eq)]
 pub enum Kind {
     Program,
     Directive,
@@ -102,18 +102,15 @@ pub enum Kind {
     PrivateFieldExpression,
     TaggedTemplateExpression,
     NewExpression,
-}
-
-/// The place of a kind in the list of all kinds.
-fn number(kind: Kind) -> u8
-    ensures { result ≡ number (kind_of kind) }
-{
-    kind as u8
+    Namespace,
+    Local,
+    Arguments,
+    Global,
 }
 
 /// Whether two kinds are one.
 pub fn is_kind(kind: Kind, other: Kind) -> bool
-    ensures { result ≡ is_kind (kind_of kind) (kind_of other) }
+    ensures { result ≡ is_kind kind other }
 {
-    number(kind) == number(other)
+    kind == other
 }

@@ -1,9 +1,0 @@
-//! Tests of whole trees, apart from the crates that they call, so that those are proved once.
-#![tactic(auto)]
-
-#[cfg(test)]
-mod copies;
-#[cfg(test)]
-mod drops;
-#[cfg(test)]
-mod module_trees;
