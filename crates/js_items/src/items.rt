@@ -1,9 +1,12 @@
-ghost use Rattle.std.specs.Prelude.{◌≡◌, [], ◌∷◌, ◌++◌, ◌<◌, length, slice_get, ◌↔◌, IsTrue, IfOk, MatchOption, OnOk, OnErr, OnSome};
+ghost use Rattle.js_items.specs.contracts.items.Items.{the_row};
+ghost use Rattle.std.specs.Borrow.{Array, Lends, LendsIf, sem};
+ghost use Rattle.std.specs.Prelude.{◌≡◌, [], ◌∷◌, ◌++◌, ◌<◌, length, slice_get, slice_index_or, slice_set, take, drop, ◌↔◌, IsTrue, IfOk, MatchOption, OnOk, OnErr, OnSome};
 ghost use Rattle.std.specs.Option.{option_copied};
 
 use crate::boxed::discard;
 use std::alloc::{AllocError, AllocFailed, Global};
 use std::marker::Model;
+use std::mem;
 
 /// A `Vec` that contracts see as the list of its elements, so that a copy equals what it copies.
 #[derive(Debug, Drop)]
@@ -30,6 +33,14 @@ impl<T> Items<T> {
         Items {
             items: Vec::new(alloc),
         }
+    }
+
+    /// The empty list, with memory for so many items.
+    pub fn with_capacity(alloc: Global, capacity: usize) -> Result<Items<T>, AllocError>
+        ensures { IfOk result (λ it. it ≡ []) }
+    {
+        let items = Vec::with_capacity(alloc, capacity)?;
+        Ok(Items { items })
     }
 
     pub fn from_vec(items: Vec<T>) -> Items<T>
@@ -73,6 +84,41 @@ impl<T> Items<T> {
         ensures within { OnSome result (at < length self.now) }
     {
         self.items.get(at)
+    }
+
+    /// Lends the items to be written.
+    pub fn as_mut_slice(&mut self) -> &mut [T]
+        ensures* after { sem 𝓛 (Lends (the_row T.row) (Array T.row 0) self.entry result (λ w. take (length self.entry.now) (w ++ drop (length w) self.entry.now))) }
+        ensures value { result.now ≡ self.old }
+    {
+        self.items.as_mut_slice()
+    }
+
+    /// Lends an item to be written; what is written there is in the list afterwards.
+    pub fn get_mut(&mut self, at: usize) -> Option<&mut T>
+        ensures* after { sem 𝓛 (LendsIf (the_row T.row) T.row self.entry result (λ w. slice_set self.entry.now at w) self.entry.now) }
+    {
+        self.items.get_mut(at)
+    }
+
+    /// Puts an item into the place of another, which is handed out.
+    pub fn replace(&mut self, at: usize, item: T) -> T
+        requires { at < length self.old }
+        ensures value { result ≡ slice_index_or self.old at result }
+        ensures after { self.new ≡ slice_set self.old at item }
+    {
+        mem::replace(&mut self.items[at], item)
+    }
+
+    /// Puts an item into the place of another, which is dropped, where there is such a place.
+    pub fn put(&mut self, at: usize, item: T)
+    where
+        T: Drop,
+        ensures { self.new ≡ slice_set self.old at item }
+    {
+        if at < self.items.len() {
+            self.items[at] = item;
+        }
     }
 
     /// Adds an item. Where there is no memory, the item is discarded.

@@ -1,0 +1,15 @@
+-- The term of a node by its level.
+use Rattle.std.proofs.Common.{◌≡◌, ap, ◌∙◌, map}
+use Rattle.js_term.specs.Term.{Term, all}
+use Rattle.js_tree.specs.Words.{texts_seen}
+use Rattle.js_tree.specs.Parts.{Level, kids, with_kids, top}
+use Rattle.js_tree.specs.TermOf.{by_form, level_term, term}
+use Rattle.js_tree.specs.declared.node.Node.{Node, out-Node, roll-Node, fold_out-Node, fold-roll-Node}
+
+pub term_is : (n : Node) → term n ≡ by_form (top n).form (top n).texts (all (map term (kids n)))
+unfolding term kids top
+term_is n = fold_out-Node Term level_term n
+
+pub term_roll : (l : Level) → term (roll-Node l) ≡ by_form l.form (texts_seen l.texts) (all (map term l.kids))
+unfolding term
+term_roll l = fold-roll-Node Term level_term l

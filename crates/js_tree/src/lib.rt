@@ -1,0 +1,18 @@
+//! The syntax tree of a module: one type of node for the whole language.
+#![tactic(auto)]
+
+mod free;
+mod node;
+mod parts;
+mod span;
+mod texts;
+mod word;
+
+pub use js_chars::RegExpFlags;
+pub use js_ident::Ident;
+pub use js_items::Items;
+pub use js_term::Kind;
+pub use node::{Form, Node};
+pub use span::Span;
+pub use texts::Texts;
+pub use word::Word;

@@ -1,0 +1,35 @@
+ghost use Rattle.std.specs.Prelude.{◌≡◌, IfOk};
+
+use crate::word::Word;
+use js_chars::RegExpFlags;
+use js_ident::Ident;
+use std::alloc::AllocError;
+
+/// The texts of a node: none, a name or a literal, a regular expression, or one to four words.
+#[derive(Debug, Drop)]
+pub enum Texts {
+    None,
+    Text(Ident),
+    RegExp(RegExpFlags, Ident),
+    One(Word),
+    Two(Word, Word),
+    Three(Word, Word, Word),
+    Four(Word, Word, Word, Word),
+}
+
+impl Texts {
+    /// Equal texts, which share their letters.
+    pub fn try_clone(&self) -> Result<Texts, AllocError>
+        ensures { IfOk result (λ it. it ≡ self.now) }
+    {
+        match self {
+            Texts::None => Ok(Texts::None),
+            Texts::Text(text) => Ok(Texts::Text(text.clone()?)),
+            Texts::RegExp(flags, text) => Ok(Texts::RegExp(*flags, text.clone()?)),
+            Texts::One(a) => Ok(Texts::One(*a)),
+            Texts::Two(a, b) => Ok(Texts::Two(*a, *b)),
+            Texts::Three(a, b, c) => Ok(Texts::Three(*a, *b, *c)),
+            Texts::Four(a, b, c, d) => Ok(Texts::Four(*a, *b, *c, *d)),
+        }
+    }
+}
