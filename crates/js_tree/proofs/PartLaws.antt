@@ -1,5 +1,5 @@
 -- Laws of the parts of a node.
-use Rattle.std.specs.Prelude.{◌≡◌, ℕ, zero, suc, ◌<◌, ◌≤◌, ◌+◌, List, [], ◌∷◌, Some, None, slice_get, slice_set, refl}
+use Rattle.std.specs.Prelude.{◌≡◌, ℕ, zero, suc, ◌<◌, ◌≤◌, List, [], ◌∷◌, Some, slice_get, slice_set, refl}
 use Rattle.std.proofs.Common.{sym, ◌∙◌, ap, arith}
 use denote.Param.Weighed.{most}
 use Rattle.js_tree.specs.declared.node.Node.{Node, out-Node, roll-Node, out-roll-Node, roll-out-Node, size-Node, size_is-Node}

@@ -1,10 +1,10 @@
 -- The term of a node by its level.
-use Rattle.std.proofs.Common.{◌≡◌, ap, ◌∙◌, map}
+use Rattle.std.proofs.Common.{◌≡◌, map}
 use Rattle.js_term.specs.Term.{Term, all}
 use Rattle.js_tree.specs.Words.{texts_seen}
-use Rattle.js_tree.specs.Parts.{Level, kids, with_kids, top}
+use Rattle.js_tree.specs.Parts.{Level, kids, top}
 use Rattle.js_tree.specs.TermOf.{by_form, level_term, term}
-use Rattle.js_tree.specs.declared.node.Node.{Node, out-Node, roll-Node, fold_out-Node, fold-roll-Node}
+use Rattle.js_tree.specs.declared.node.Node.{Node, roll-Node, fold_out-Node, fold-roll-Node}
 
 pub term_is : (n : Node) → term n ≡ by_form (top n).form (top n).texts (all (map term (kids n)))
 unfolding term kids top

@@ -1,12 +1,9 @@
 -- Trees with spans and ids by their levels, and what their terms are.
-use Rattle.std.proofs.Common.{◌≡◌, refl, sym, ap, ◌∙◌, List, [], ◌∷◌, map, Option, ℕ}
-use Rattle.js_term.specs.Term.{Term, Terms, none, more, all}
+use Rattle.std.proofs.Common.{◌≡◌, map}
 use Rattle.js_tree.specs.Words.{texts_seen}
 use Rattle.js_tree.specs.Parts.{Level, kids, top}
-use Rattle.js_tree.specs.TermOf.{by_form, term}
-use Rattle.js_tree.specs.Tree.{Tree, Trees, tree, no_trees, more_trees, trees, level_tree, tree_of, tree_with, erased, erased_all}
-use Rattle.js_tree.specs.declared.node.Node.{Node, Node-F, out-Node, roll-Node, fold_out-Node, fold-roll-Node, ind-Node}
-use Rattle.js_tree.proofs.TermOf.{term_is}
+use Rattle.js_tree.specs.Tree.{Tree, tree, trees, level_tree, tree_of, tree_with}
+use Rattle.js_tree.specs.declared.node.Node.{Node, roll-Node, fold_out-Node, fold-roll-Node}
 
 pub tree_is : (n : Node) → tree_of n ≡ tree_with (top n) (trees (map tree_of (kids n)))
 unfolding tree_of kids top

@@ -1,7 +1,7 @@
 -- How much is still to be freed: a number that falls with each step of a drop.
 use Rattle.std.specs.Prelude.{ℕ, suc, ◌+◌, ◌*◌, List, [], ◌∷◌, Option, None, Some, map}
 use denote.Param.Weighed.{most}
-use Rattle.js_tree.specs.declared.node.Node.{Node, Node-F, fold-Node, size-Node}
+use Rattle.js_tree.specs.declared.node.Node.{Node, fold-Node, size-Node}
 
 abbrev pub total : List ℕ → ℕ
 total [] = 0

@@ -1,6 +1,6 @@
 ghost use Rattle.std.specs.Prelude.{◌≡◌, [], map};
 ghost use Rattle.js_term.specs.Term.{all, list};
-ghost use Rattle.js_tree.specs.Parts.{hole, kids};
+ghost use Rattle.js_tree.specs.Parts.{hole, kids as kids_of};
 ghost use Rattle.js_tree.specs.TermOf.{term};
 
 use crate::free::free;
@@ -50,9 +50,10 @@ impl Node {
     }
 
     /// A list of these.
-    #[tactic(auto, using(crate::proofs::TermOf::term_roll))]
+    #[tactic(auto, using(crate::proofs::TermOf::term_roll), unfolding(crate::specs::Parts::kids))]
     pub fn list(kids: Items<Node>) -> Node
-        ensures { term result ≡ list (all (map term kids)) }
+        ensures seen { term result ≡ list (all (map term kids)) }
+        ensures held { kids_of result ≡ kids }
     {
         Node {
             form: Form::List,
@@ -66,7 +67,7 @@ impl Node {
     /// Frees the node but for its kids.
     #[tactic(auto, unfolding(crate::specs::Parts::kids))]
     pub(crate) fn into_kids(self) -> Items<Node>
-        ensures { result ≡ kids self }
+        ensures { result ≡ kids_of self }
     {
         let Node {
             form: _,
