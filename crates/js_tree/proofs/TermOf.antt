@@ -1,9 +1,11 @@
 -- The term of a node by its level.
-use Rattle.std.proofs.Common.{◌≡◌, map}
-use Rattle.js_term.specs.Term.{Term, all}
+use Rattle.std.proofs.Common.{◌≡◌, refl, List, map}
+use Rattle.js_term.specs.Term.{Text, Term, Terms, all}
 use Rattle.js_tree.specs.Words.{texts_seen}
 use Rattle.js_tree.specs.Parts.{Level, kids, top}
-use Rattle.js_tree.specs.TermOf.{by_form, level_term, term}
+use Rattle.js_tree.specs.TermOf.{by_form, level_term, term, retexted}
+use Rattle.js_tree.specs.declared.node.Form.{Form}
+use Rattle.js_tree.specs.declared.node.Form.TheVariants as form
 use Rattle.js_tree.specs.declared.node.Node.{Node, roll-Node, fold_out-Node, fold-roll-Node}
 
 pub term_is : (n : Node) → term n ≡ by_form (top n).form (top n).texts (all (map term (kids n)))
@@ -13,3 +15,8 @@ term_is n = fold_out-Node Term level_term n
 pub term_roll : (l : Level) → term (roll-Node l) ≡ by_form l.form (texts_seen l.texts) (all (map term l.kids))
 unfolding term
 term_roll l = fold-roll-Node Term level_term l
+
+pub retexted_form : (f : Form) (xs ys : List Text) (ts : Terms) → retexted ys (by_form f xs ts) ≡ by_form f ys ts
+retexted_form form.Absent xs ys ts = refl
+retexted_form form.List xs ys ts = refl
+retexted_form (form.Node k) xs ys ts = refl

@@ -1,6 +1,7 @@
 -- The parts of a node, and a node with other parts.
-use Rattle.std.specs.Prelude.{ℕ, List, [], Option, None, slice_set}
+use Rattle.std.specs.Prelude.{ℕ, List, [], Option, None, Some, slice_set}
 use Rattle.js_term.specs.Term.{Text}
+use Rattle.js_term.specs.declared.kind.Kind.{Kind}
 use Rattle.js_tree.specs.Words.{texts_seen}
 use Rattle.js_tree.specs.declared.span.Span.{Span}
 use Rattle.js_tree.specs.declared.texts.Texts.TheVariants as texts
@@ -34,3 +35,9 @@ pub record Top : Type 0 where
 
 unfoldable pub top : Node → Top
 top n = let l = out-Node n in record { form = l.form; texts = texts_seen l.texts; span = l.span; id = l.id }
+
+-- the kind of a node
+abbrev pub kind_of : Form → Option Kind
+kind_of form.Absent = None
+kind_of form.List = None
+kind_of (form.Node k) = Some k

@@ -16,3 +16,9 @@ level_term n = by_form n.form (texts_seen n.texts) (all n.kids)
 
 unfoldable pub term : Node → Term
 term = fold-Node Term level_term
+
+-- a node with other texts
+abbrev pub retexted : List Text → Term → Term
+retexted ys absent = absent
+retexted ys (list ts) = list ts
+retexted ys (node k xs ts) = node k ys ts

@@ -36,6 +36,9 @@ with_id i (tree f xs s j ts) = tree f xs s i ts
 abbrev pub with_span : Span → Tree → Tree
 with_span s (tree f xs r i ts) = tree f xs s i ts
 
+abbrev pub with_texts : List Text → Tree → Tree
+with_texts ys (tree f xs s i ts) = tree f ys s i ts
+
 -- the term of a tree
 abbrev mutual
   pub erased : Tree → Term

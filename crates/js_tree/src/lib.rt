@@ -1,6 +1,8 @@
 //! The syntax tree of a module: one type of node for the whole language.
 #![tactic(auto)]
 
+mod copy;
+mod fields;
 mod free;
 mod node;
 mod parts;

@@ -21,11 +21,11 @@ pub enum Form {
 /// A part of a syntax tree: a node, a list of parts, or nothing at a place. A node is its kind, its texts and its
 /// parts in text order, as its term is; beside it stand its place in the text and the id by which a table names it.
 pub struct Node {
-    pub form: Form,
-    pub id: Option<u32>,
-    pub span: Span,
-    pub texts: Texts,
-    pub kids: Items<Node>,
+    pub(crate) form: Form,
+    pub(crate) id: Option<u32>,
+    pub(crate) span: Span,
+    pub(crate) texts: Texts,
+    pub(crate) kids: Items<Node>,
 }
 
 impl Drop for Node {

@@ -1,11 +1,13 @@
 //! The parts of a node, read and changed in place.
 
-ghost use Rattle.std.specs.Prelude.{◌≡◌, ◌<◌, Some, length, slice_get};
+ghost use Rattle.std.specs.Borrow.{Array, Lends, sem};
+ghost use Rattle.std.specs.Prelude.{◌≡◌, ◌++◌, ◌<◌, Some, drop, length, slice_get, take};
 ghost use Rattle.std.specs.Option.{option_copied};
-ghost use Rattle.js_tree.specs.Parts.{kids, with_kid};
-ghost use Rattle.js_tree.specs.Tree.{tree_of, with_id};
+ghost use Rattle.js_tree.specs.Parts.{hole, kids, with_kid, with_kids};
+ghost use Rattle.js_tree.specs.contracts.node.Node.{the_row};
 
 use crate::node::Node;
+use std::alloc::Global;
 use std::mem;
 
 impl Node {
@@ -15,6 +17,23 @@ impl Node {
         ensures { result ≡ length (kids self.now) }
     {
         self.kids.len()
+    }
+
+    /// Its parts, in text order.
+    #[tactic(auto, unfolding(crate::specs::Parts::kids))]
+    pub fn kids(&self) -> &[Node]
+        ensures { result.now ≡ kids self.now }
+    {
+        self.kids.as_slice()
+    }
+
+    /// Lends the parts to be written.
+    #[tactic(auto, unfolding(crate::specs::Parts::kids, crate::specs::Parts::with_kids))]
+    pub fn kids_mut(&mut self) -> &mut [Node]
+        ensures* after { sem 𝓛 (Lends the_row (Array the_row 0) self.entry result (λ w. with_kids self.entry.now (take (length (kids self.entry.now)) (w ++ drop (length w) (kids self.entry.now))))) }
+        ensures value { result.now ≡ kids self.old }
+    {
+        self.kids.as_mut_slice()
     }
 
     /// The part numbered `k`, in text order.
@@ -58,11 +77,11 @@ impl Node {
         drop(mem::replace(self, node));
     }
 
-    /// Gives the node the id by which a table names it.
-    #[tactic(auto, using(crate::proofs::Trees::tree_is, crate::proofs::Trees::tree_roll), unfolding(crate::specs::Parts::kids, crate::specs::Parts::top))]
-    pub fn set_id(&mut self, id: u32)
-        ensures { tree_of self.new ≡ with_id (Some id) (tree_of self.old) }
+    /// Hands this node out and leaves nothing at its place.
+    pub fn take(&mut self, alloc: Global) -> Node
+        ensures given { result ≡ self.old }
+        ensures left { self.new ≡ hole }
     {
-        self.id = Some(id);
+        mem::replace(self, Node::absent(alloc))
     }
 }

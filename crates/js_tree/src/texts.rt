@@ -1,4 +1,6 @@
 ghost use Rattle.std.specs.Prelude.{◌≡◌, IfOk};
+ghost use Rattle.js_term.specs.Term.{first};
+ghost use Rattle.js_tree.specs.Words.{texts_seen};
 
 use crate::word::Word;
 use js_chars::RegExpFlags;
@@ -18,6 +20,21 @@ pub enum Texts {
 }
 
 impl Texts {
+    /// The first of them; the empty one where there is none.
+    pub fn first(&self) -> &str
+        ensures { result.now ≡ first (texts_seen self.now) }
+    {
+        match self {
+            Texts::None => "",
+            Texts::Text(text) => text.as_str(),
+            Texts::RegExp(_, pattern) => pattern.as_str(),
+            Texts::One(a) => a.as_str(),
+            Texts::Two(a, _) => a.as_str(),
+            Texts::Three(a, _, _) => a.as_str(),
+            Texts::Four(a, _, _, _) => a.as_str(),
+        }
+    }
+
     /// Equal texts, which share their letters.
     pub fn try_clone(&self) -> Result<Texts, AllocError>
         ensures { IfOk result (λ it. it ≡ self.now) }
