@@ -36,13 +36,6 @@ impl Node {
         }
     }
 
-    /// Whether it is a node of this kind.
-    pub fn is(&self, kind: Kind) -> bool
-        ensures { IsTrue result ↔ ((top self.now).form ≡ form.Node kind) }
-    {
-        self.form() == Form::Node(kind)
-    }
-
     /// Whether nothing stands here.
     pub fn is_absent(&self) -> bool
         ensures { IsTrue result ↔ ((top self.now).form ≡ form.Absent) }

@@ -1,5 +1,5 @@
 -- The flags of a regular expression, by their letters: what is tried at each choice of letters holds.
-use Rattle.std.proofs.Common.{◌≡◌, refl, ◌∙◌, sym, ap, ℕ, zero, suc, List, [], ◌∷◌, ◌++◌, length, true, false}
+use Rattle.std.proofs.Common.{◌≡◌, refl, arith, ◌∙◌, sym, ap, ℕ, zero, suc, List, [], ◌∷◌, ◌++◌, length, true, false}
 use Rattle.std.specs.Prelude.{Bool, not, ◌&&◌, ◌||◌, codes, nat_eq, bit_and}
 use Rattle.std.proofs.lemmas.Bool.{and_parts}
 use Rattle.js_term.specs.Term.{Text, flag}
@@ -16,10 +16,10 @@ at_each (suc n) p = at_each n (λ bs. p (true ∷ bs)) && at_each n (λ bs. p (f
 
 at_one : (n : ℕ) (p : List Bool → Bool) → at_each n p ≡ true → (bs : List Bool) → length bs ≡ n → p bs ≡ true
 at_one zero p h [] e = h
-at_one zero p h (b ∷ bs) e = absurd (omega (e))
-at_one (suc n) p h [] e = absurd (omega (e))
-at_one (suc n) p h (true ∷ bs) e = at_one n (λ cs. p (true ∷ cs)) (and_parts (at_each n (λ cs. p (true ∷ cs))) (at_each n (λ cs. p (false ∷ cs))) h).0 bs (omega (e))
-at_one (suc n) p h (false ∷ bs) e = at_one n (λ cs. p (false ∷ cs)) (and_parts (at_each n (λ cs. p (true ∷ cs))) (at_each n (λ cs. p (false ∷ cs))) h).1 bs (omega (e))
+at_one zero p h (b ∷ bs) e = absurd (omega (arith, e))
+at_one (suc n) p h [] e = absurd (omega (arith, e))
+at_one (suc n) p h (true ∷ bs) e = at_one n (λ cs. p (true ∷ cs)) (and_parts (at_each n (λ cs. p (true ∷ cs))) (at_each n (λ cs. p (false ∷ cs))) h).0 bs (omega (arith, e))
+at_one (suc n) p h (false ∷ bs) e = at_one n (λ cs. p (false ∷ cs)) (and_parts (at_each n (λ cs. p (true ∷ cs))) (at_each n (λ cs. p (false ∷ cs))) h).1 bs (omega (arith, e))
 
 abbrev agree : Bool → Bool → Bool
 agree true b = b

@@ -7,5 +7,4 @@ mod texts;
 mod view;
 
 pub use module_tree::ModuleTree;
-pub use texts::{first_text, has_texts, is_text_set};
 pub use view::TreePart;

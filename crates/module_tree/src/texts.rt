@@ -17,21 +17,6 @@ fn is_set(word: Word) -> bool
     !matches!(word, Word::Unset)
 }
 
-/// The first text; an empty one where there is none.
-pub fn first_text(texts: &Texts) -> &str
-    ensures { result.now ≡ text_at 0 (texts_seen texts.now) }
-{
-    match texts {
-        Texts::None => "",
-        Texts::Text(text) => text.as_str(),
-        Texts::RegExp(_, text) => text.as_str(),
-        Texts::One(word) => word.as_str(),
-        Texts::Two(word, _) => word.as_str(),
-        Texts::Three(word, _, _) => word.as_str(),
-        Texts::Four(word, _, _, _) => word.as_str(),
-    }
-}
-
 /// Whether the second text is not empty.
 fn is_second_set(texts: &Texts) -> bool
     ensures { result ≡ is_set_at 1 (texts_seen texts.now) }
@@ -50,7 +35,7 @@ pub fn is_text_set(texts: &Texts, at: usize) -> bool
     ensures { result ≡ is_set_at at (texts_seen texts.now) }
 {
     match at {
-        0 => !first_text(texts).is_empty(),
+        0 => !texts.first().is_empty(),
         1 => is_second_set(texts),
         2 => match texts {
             Texts::Three(_, _, word) => is_set(*word),

@@ -1,7 +1,7 @@
 ghost use Rattle.std.specs.Prelude.{◌≡◌};
 ghost use Rattle.module_tree.specs.ViewTerm.{part_term};
 
-use crate::texts::{first_text, has_texts, is_text_set};
+use crate::texts::{has_texts, is_text_set};
 use js_rules::{Form, Kind, Lexicon, View};
 use js_tree::{self as tree, Node};
 
@@ -16,7 +16,7 @@ impl<'a> View for TreePart<'a> {
     fn form(&self) -> Form {
         match self.0 {
             None => Form::Absent,
-            Some(n) => match n.form {
+            Some(n) => match n.form() {
                 tree::Form::Absent => Form::Absent,
                 tree::Form::List => Form::List,
                 tree::Form::Node(kind) => Form::Node(kind),
@@ -28,9 +28,9 @@ impl<'a> View for TreePart<'a> {
     fn count(&self) -> usize {
         match self.0 {
             None => 0,
-            Some(n) => match n.form {
+            Some(n) => match n.form() {
                 tree::Form::Absent => 0,
-                _ => n.kids.len(),
+                _ => n.kid_count(),
             },
         }
     }
@@ -39,9 +39,9 @@ impl<'a> View for TreePart<'a> {
     fn part(&self, n: usize) -> Self {
         match self.0 {
             None => TreePart(None),
-            Some(node) => match node.form {
+            Some(node) => match node.form() {
                 tree::Form::Absent => TreePart(None),
-                _ => TreePart(node.kids.get(n)),
+                _ => TreePart(node.kid(n)),
             },
         }
     }
@@ -50,8 +50,8 @@ impl<'a> View for TreePart<'a> {
     fn text(&self) -> &str {
         match self.0 {
             None => "",
-            Some(n) => match n.form {
-                tree::Form::Node(_) => first_text(&n.texts),
+            Some(n) => match n.form() {
+                tree::Form::Node(_) => n.text(),
                 _ => "",
             },
         }
@@ -61,8 +61,8 @@ impl<'a> View for TreePart<'a> {
     fn is_set(&self, n: usize) -> bool {
         match self.0 {
             None => false,
-            Some(node) => match node.form {
-                tree::Form::Node(_) => is_text_set(&node.texts, n),
+            Some(node) => match node.form() {
+                tree::Form::Node(_) => is_text_set(node.texts(), n),
                 _ => false,
             },
         }
@@ -72,8 +72,8 @@ impl<'a> View for TreePart<'a> {
     fn has_texts<L: Lexicon>(&self, kind: Kind) -> bool {
         match self.0 {
             None => false,
-            Some(n) => match n.form {
-                tree::Form::Node(_) => has_texts::<L>(kind, &n.texts),
+            Some(n) => match n.form() {
+                tree::Form::Node(_) => has_texts::<L>(kind, n.texts()),
                 _ => false,
             },
         }
