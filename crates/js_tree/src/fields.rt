@@ -3,7 +3,7 @@
 ghost use Rattle.std.specs.Prelude.{◌≡◌, ◌↔◌, ◌∷◌, [], IsTrue, Some};
 ghost use Rattle.js_term.specs.Term.{first};
 ghost use Rattle.js_tree.specs.Words.{texts_seen};
-ghost use Rattle.js_tree.specs.Parts.{kind_of, top};
+ghost use Rattle.js_tree.specs.Parts.{kind_of, texts_of, top};
 ghost use Rattle.js_tree.specs.TermOf.{retexted, term};
 ghost use Rattle.js_tree.specs.Tree.{tree_of, with_id, with_span, with_texts};
 ghost use Rattle.js_tree.specs.declared.node.Form.TheVariants as form;
@@ -12,7 +12,7 @@ use crate::node::{Form, Node};
 use crate::span::Span;
 use crate::texts::Texts;
 use js_ident::Ident;
-use js_term::Kind;
+use js_term::{Kind, is_kind};
 use std::mem;
 
 impl Node {
@@ -36,11 +36,22 @@ impl Node {
         }
     }
 
+    /// Whether it is a node of this kind.
+    pub fn is(&self, kind: Kind) -> bool
+        ensures { IsTrue result ↔ ((top self.now).form ≡ form.Node kind) }
+    {
+        match self.form() {
+            Form::Node(here) => is_kind(here, kind),
+            Form::Absent => false,
+            Form::List => false,
+        }
+    }
+
     /// Whether nothing stands here.
     pub fn is_absent(&self) -> bool
         ensures { IsTrue result ↔ ((top self.now).form ≡ form.Absent) }
     {
-        self.form() == Form::Absent
+        matches!(self.form(), Form::Absent)
     }
 
     /// Where it stands in the text that it was read from.
@@ -59,9 +70,10 @@ impl Node {
         self.id
     }
 
-    #[tactic(auto, unfolding(crate::specs::Parts::top))]
+    #[tactic(auto, unfolding(crate::specs::Parts::texts_of, crate::specs::Parts::top))]
     pub fn texts(&self) -> &Texts
-        ensures { texts_seen result.now ≡ (top self.now).texts }
+        ensures own { result.now ≡ texts_of self.now }
+        ensures seen { texts_seen result.now ≡ (top self.now).texts }
     {
         &self.texts
     }
