@@ -12,7 +12,7 @@ use crate::node::{Form, Node};
 use crate::span::Span;
 use crate::texts::Texts;
 use js_ident::Ident;
-use js_term::Kind;
+use js_term::{Kind, is_kind};
 use std::mem;
 
 impl Node {
@@ -40,14 +40,18 @@ impl Node {
     pub fn is(&self, kind: Kind) -> bool
         ensures { IsTrue result ↔ ((top self.now).form ≡ form.Node kind) }
     {
-        self.form() == Form::Node(kind)
+        match self.form() {
+            Form::Node(here) => is_kind(here, kind),
+            Form::Absent => false,
+            Form::List => false,
+        }
     }
 
     /// Whether nothing stands here.
     pub fn is_absent(&self) -> bool
         ensures { IsTrue result ↔ ((top self.now).form ≡ form.Absent) }
     {
-        self.form() == Form::Absent
+        matches!(self.form(), Form::Absent)
     }
 
     /// Where it stands in the text that it was read from.

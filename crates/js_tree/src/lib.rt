@@ -1,6 +1,8 @@
 //! The syntax tree of a module: one type of node for the whole language.
 #![tactic(auto)]
 
+mod binding;
+mod build;
 mod copy;
 mod fields;
 mod free;
