@@ -1,5 +1,5 @@
 -- The names of a node by those of its kids, and closures that are called on them in turn.
-use Rattle.std.proofs.Common.{◌≡◌, refl, sym, subst, ap, ◌∙◌, List, [], ◌∷◌, ◌++◌, Option, None, Some, map, ℕ, zero, suc, ◌+◌, ◌<◌, length, take, get_or}
+use Rattle.std.proofs.Common.{◌≡◌, refl, sym, subst, ap, ◌∙◌, List, [], ◌∷◌, ◌++◌, None, Some, map, ℕ, zero, suc, ◌+◌, ◌<◌, length, take, get_or}
 use Rattle.std.proofs.lemmas.List.{append-nil, take_more}
 use Rattle.std.proofs.lemmas.Grind.{flat_map-append}
 use Rattle.std.proofs.Math.Seq.{take-length}
@@ -9,7 +9,7 @@ use Rattle.js_tree.specs.Parts.{Level, kids, top}
 use Rattle.js_tree.specs.BoundNames.{Names, names_at, binding_at, names_by, level_names, names, all_names}
 use Rattle.js_tree.specs.declared.binding.Binding.{Binding}
 use Rattle.js_tree.specs.declared.node.Form.{Form}
-use Rattle.js_tree.specs.declared.node.Node.{Node, Node-F, out-Node, roll-Node, roll-out-Node, map-Node, para-Node, para-roll-Node}
+use Rattle.js_tree.specs.declared.node.Node.{Node, out-Node, roll-Node, roll-out-Node, map-Node, para-roll-Node}
 
 abbrev paired : Node → Node × Names
 paired n = (n, names n)

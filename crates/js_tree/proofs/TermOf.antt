@@ -1,11 +1,12 @@
 -- The term of a node by its level.
-use Rattle.std.proofs.Common.{◌≡◌, refl, List, map}
-use Rattle.js_term.specs.Term.{Text, Term, Terms, all}
+use Rattle.std.proofs.Common.{◌≡◌, refl, List, [], None, map}
+use Rattle.js_term.specs.Term.{Text, Term, absent, Terms, all}
 use Rattle.js_tree.specs.Words.{texts_seen}
-use Rattle.js_tree.specs.Parts.{Level, kids, top}
+use Rattle.js_tree.specs.Parts.{Level, hole, kids, top}
 use Rattle.js_tree.specs.TermOf.{by_form, level_term, term, retexted}
 use Rattle.js_tree.specs.declared.node.Form.{Form}
 use Rattle.js_tree.specs.declared.node.Form.TheVariants as form
+use Rattle.js_tree.specs.declared.texts.Texts.TheVariants as texts
 use Rattle.js_tree.specs.declared.node.Node.{Node, roll-Node, fold_out-Node, fold-roll-Node}
 
 pub term_is : (n : Node) → term n ≡ by_form (top n).form (top n).texts (all (map term (kids n)))
@@ -20,3 +21,7 @@ pub retexted_form : (f : Form) (xs ys : List Text) (ts : Terms) → retexted ys 
 retexted_form form.Absent xs ys ts = refl
 retexted_form form.List xs ys ts = refl
 retexted_form (form.Node k) xs ys ts = refl
+
+pub term_hole : term hole ≡ absent
+unfolding hole term
+term_hole = fold-roll-Node Term level_term (record { form = form.Absent; id = None; span = record { start = 0; end = 0 }; texts = texts.None; kids = [] })

@@ -1,7 +1,7 @@
 -- Trees with spans and ids by their levels, and what their terms are.
 use Rattle.std.proofs.Common.{◌≡◌, refl, sym, ap, ◌∙◌, ℕ, zero, suc, ◌≤◌, List, [], ◌∷◌, map, arith}
 use denote.Param.Weighed.{most}
-use Rattle.js_term.specs.Term.{Term, Terms, more, all}
+use Rattle.js_term.specs.Term.{Terms, more, all}
 use Rattle.js_tree.specs.Words.{texts_seen}
 use Rattle.js_tree.specs.Parts.{Level, kids, top}
 use Rattle.js_tree.specs.TermOf.{by_form, term}

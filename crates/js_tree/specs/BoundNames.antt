@@ -3,7 +3,6 @@
 use Rattle.std.specs.Prelude.{ℕ, zero, suc, List, [], ◌∷◌, map}
 use Rattle.std.specs.List.{flat_map}
 use Rattle.js_term.specs.declared.kind.Kind.{Kind}
-use Rattle.js_term.specs.declared.kind.Kind.TheVariants as Kind
 use Rattle.js_tree.specs.declared.binding.Binding.{Binding}
 use Rattle.js_tree.specs.declared.binding.Binding.TheVariants as binding
 use Rattle.js_tree.specs.declared.node.Form.{Form}

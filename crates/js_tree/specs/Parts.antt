@@ -4,6 +4,7 @@ use Rattle.js_term.specs.Term.{Text}
 use Rattle.js_term.specs.declared.kind.Kind.{Kind}
 use Rattle.js_tree.specs.Words.{texts_seen}
 use Rattle.js_tree.specs.declared.span.Span.{Span}
+use Rattle.js_tree.specs.declared.texts.Texts.{Texts}
 use Rattle.js_tree.specs.declared.texts.Texts.TheVariants as texts
 use Rattle.js_tree.specs.declared.node.Form.{Form}
 use Rattle.js_tree.specs.declared.node.Form.TheVariants as form
@@ -25,6 +26,9 @@ with_kid n k x = with_kids n (slice_set (kids n) k x)
 -- what stands at an empty place
 unfoldable pub hole : Node
 hole = roll-Node (record { form = form.Absent; id = None; span = record { start = 0; end = 0 }; texts = texts.None; kids = [] })
+
+unfoldable pub texts_of : Node → Texts
+texts_of n = (out-Node n).texts
 
 -- a node without its parts
 pub record Top : Type 0 where

@@ -1,10 +1,12 @@
 -- The words that stand among the texts of a node (ECMAScript, sections 12.8, 13 and 15), and the letters of the flags
 -- of a regular expression.
-use Rattle.std.specs.Prelude.{ℕ, List, [], ◌∷◌, ◌++◌, codes, nat_eq, bit_and}
+use Rattle.std.specs.Prelude.{ℕ, Bool, false, true, List, [], ◌∷◌, ◌++◌, codes, nat_eq, bit_and}
 use Rattle.js_term.specs.Term.{Text, flag}
 use Rattle.js_chars.specs.declared.flags.RegExpFlags.{RegExpFlags}
 use Rattle.js_tree.specs.declared.word.Word.{Word}
 use Rattle.js_tree.specs.declared.word.Word.TheVariants as word
+use Rattle.js_tree.specs.declared.statements.VariableDeclarationKind.{VariableDeclarationKind}
+use Rattle.js_tree.specs.declared.statements.VariableDeclarationKind.TheVariants as variables
 use Rattle.js_tree.specs.declared.texts.Texts.{Texts}
 use Rattle.js_tree.specs.declared.texts.Texts.TheVariants as texts
 
@@ -76,6 +78,12 @@ word_text word.Delete = codes "delete"
 word_text word.PlusPlus = codes "++"
 word_text word.MinusMinus = codes "--"
 
+-- the word of a variable declaration (14.3)
+abbrev pub variable_word : VariableDeclarationKind → Word
+variable_word variables.Var = word.Var
+variable_word variables.Let = word.Let
+variable_word variables.Const = word.Const
+
 abbrev pub letter : RegExpFlags → ℕ → Text → Text
 letter flags bit word = flag (nat_eq (bit_and flags.0 bit) bit) word
 
@@ -92,3 +100,17 @@ texts_seen (texts.One v) = word_text v ∷ []
 texts_seen (texts.Two v w) = word_text v ∷ word_text w ∷ []
 texts_seen (texts.Three v w x) = word_text v ∷ word_text w ∷ word_text x ∷ []
 texts_seen (texts.Four v w x y) = word_text v ∷ word_text w ∷ word_text x ∷ word_text y ∷ []
+
+-- the words among the texts of a node, of which it has four at most
+abbrev pub words_of : Texts → List Word
+words_of texts.None = word.Unset ∷ word.Unset ∷ word.Unset ∷ word.Unset ∷ []
+words_of (texts.Text x) = word.Unset ∷ word.Unset ∷ word.Unset ∷ word.Unset ∷ []
+words_of (texts.RegExp flags x) = word.Unset ∷ word.Unset ∷ word.Unset ∷ word.Unset ∷ []
+words_of (texts.One v) = v ∷ word.Unset ∷ word.Unset ∷ word.Unset ∷ []
+words_of (texts.Two v w) = v ∷ w ∷ word.Unset ∷ word.Unset ∷ []
+words_of (texts.Three v w x) = v ∷ w ∷ x ∷ word.Unset ∷ []
+words_of (texts.Four v w x y) = v ∷ w ∷ x ∷ y ∷ []
+
+abbrev pub is_set : Word → Bool
+is_set word.Unset = false
+is_set w = true

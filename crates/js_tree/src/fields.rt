@@ -3,7 +3,7 @@
 ghost use Rattle.std.specs.Prelude.{◌≡◌, ◌↔◌, ◌∷◌, [], IsTrue, Some};
 ghost use Rattle.js_term.specs.Term.{first};
 ghost use Rattle.js_tree.specs.Words.{texts_seen};
-ghost use Rattle.js_tree.specs.Parts.{kind_of, top};
+ghost use Rattle.js_tree.specs.Parts.{kind_of, texts_of, top};
 ghost use Rattle.js_tree.specs.TermOf.{retexted, term};
 ghost use Rattle.js_tree.specs.Tree.{tree_of, with_id, with_span, with_texts};
 ghost use Rattle.js_tree.specs.declared.node.Form.TheVariants as form;
@@ -70,9 +70,10 @@ impl Node {
         self.id
     }
 
-    #[tactic(auto, unfolding(crate::specs::Parts::top))]
+    #[tactic(auto, unfolding(crate::specs::Parts::texts_of, crate::specs::Parts::top))]
     pub fn texts(&self) -> &Texts
-        ensures { texts_seen result.now ≡ (top self.now).texts }
+        ensures own { result.now ≡ texts_of self.now }
+        ensures seen { texts_seen result.now ≡ (top self.now).texts }
     {
         &self.texts
     }

@@ -1,6 +1,6 @@
 ghost use Rattle.std.specs.Prelude.{◌≡◌, IfOk};
 ghost use Rattle.js_term.specs.Term.{first};
-ghost use Rattle.js_tree.specs.Words.{texts_seen};
+ghost use Rattle.js_tree.specs.Words.{texts_seen, words_of};
 
 use crate::word::Word;
 use js_chars::RegExpFlags;
@@ -32,6 +32,19 @@ impl Texts {
             Texts::Two(a, _) => a.as_str(),
             Texts::Three(a, _, _) => a.as_str(),
             Texts::Four(a, _, _, _) => a.as_str(),
+        }
+    }
+
+    /// The words among them, in their order; behind the last, flags that are not set.
+    pub fn words(&self) -> [Word; 4]
+        ensures { result ≡ words_of self.now }
+    {
+        match self {
+            Texts::None | Texts::Text(_) | Texts::RegExp(_, _) => [Word::Unset; 4],
+            Texts::One(a) => [*a, Word::Unset, Word::Unset, Word::Unset],
+            Texts::Two(a, b) => [*a, *b, Word::Unset, Word::Unset],
+            Texts::Three(a, b, c) => [*a, *b, *c, Word::Unset],
+            Texts::Four(a, b, c, d) => [*a, *b, *c, *d],
         }
     }
 

@@ -1,6 +1,6 @@
 ghost use Rattle.std.specs.Prelude.{◌≡◌, cond};
 ghost use Rattle.js_tree.specs.declared.word.Word.TheVariants as word;
-ghost use Rattle.js_tree.specs.Words.{word_text};
+ghost use Rattle.js_tree.specs.Words.{is_set, word_text};
 
 /// A word among the texts of a node: an operator, the sort of a declaration or a method, or a flag.
 #[derive(Clone, Copy, Debug, PartialEq, Eq)]
@@ -154,5 +154,12 @@ impl Word {
         ensures { result ≡ cond set self word.Unset }
     {
         if set { self } else { Word::Unset }
+    }
+
+    /// Whether the flag is set that this word stands for.
+    pub fn is_set(self) -> bool
+        ensures { result ≡ is_set self }
+    {
+        !matches!(self, Word::Unset)
     }
 }

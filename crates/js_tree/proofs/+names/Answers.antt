@@ -1,9 +1,9 @@
-use Rattle.std.proofs.Common.{◌≡◌, ◌<◌, sym, subst, ap, ◌∙◌, refl, rules, arith, length}
+use Rattle.std.proofs.Common.{◌<◌, sym, subst, ap, ◌∙◌, refl, arith, length}
 use Rattle.std.specs.Prelude.{◌∷◌, []}
 use Rattle.std.specs.Fn.{CalledAt}
 use Rattle.std.specs.List.{FoldsTo}
 use Rattle.js_tree.specs.Parts.{kids}
-use Rattle.js_tree.specs.BoundNames.{Names, names, all_names}
+use Rattle.js_tree.specs.BoundNames.{names, all_names}
 use Rattle.js_tree.proofs.Names.{names_when, flat_names, kid_there, kid_missing, called_more, called_all}
 use Rattle.js_tree.proofs.+names.Goals as goal
 

@@ -1,0 +1,7 @@
+//! Nodes by the names of their parts.
+#![tactic(auto)]
+
+mod expressions;
+mod parts;
+
+pub use expressions::CallExpression;
