@@ -63,9 +63,9 @@ statement_places Kind.VariableDeclaration texts = some (Sort.only Kind.VariableD
 statement_places Kind.VariableDeclarator texts = one Sort.pattern ∷ optional Sort.expression ∷ []
 statement_places k texts = []
 
--- modules (16.2)
+-- modules, whose own list alone has imports and exports (16.2)
 abbrev pub module_places : Kind → List Text → List Place
-module_places Kind.Program texts = many (Sort.only Kind.Directive) ∷ many Sort.statement ∷ []
+module_places Kind.Program texts = many (Sort.only Kind.Directive) ∷ many Sort.module_item ∷ []
 module_places Kind.ImportDeclaration texts = optional_list Sort.import_specifier ∷ one (Sort.only Kind.StringLiteral) ∷ []
 module_places Kind.ImportSpecifier texts = one Sort.module_export_name ∷ one (Sort.only Kind.BindingIdentifier) ∷ []
 module_places Kind.ImportDefaultSpecifier texts = one (Sort.only Kind.BindingIdentifier) ∷ []
