@@ -3,7 +3,6 @@ use denote.Ref.{Bor}
 use Rattle.std.specs.Prelude.{List, [], ◌∷◌, Option, None, Some, Bool, true, ◌||◌}
 use Rattle.js_term.specs.Term.{Text, Term, Terms}
 use Rattle.js_term.specs.declared.kind.Kind.{Kind}
-use Rattle.js_term.specs.declared.kind.Kind.TheVariants as Kind
 use Rattle.js_term.specs.Kinds.{is_kind}
 use Rattle.js_syntax.specs.Parts.{parts_of}
 use Rattle.js_syntax.specs.Everywhere.{everywhere_kids, at_each_node, first_two_then}

@@ -3,7 +3,6 @@
 use Rattle.std.specs.Prelude.{ℕ, suc, List, [], ◌∷◌, ◌++◌, Bool, true, false, cond, not, ◌&&◌, ◌||◌, length, nat_eq, nat_le, codes}
 use Rattle.js_term.specs.Term.{Text, Term, absent, node, Terms, none, more}
 use Rattle.js_term.specs.declared.kind.Kind.{Kind}
-use Rattle.js_term.specs.declared.kind.Kind.TheVariants as Kind
 use Rattle.js_term.specs.Scope.{kid}
 use Rattle.js_term.specs.Lexeme.{is_one_of}
 use Rattle.js_syntax.specs.Everywhere.{at_each_node, first_then, first_two_then}

@@ -2,7 +2,6 @@
 use Rattle.std.specs.Prelude.{ℕ, zero, suc, List, [], ◌∷◌, length, Bool, true, false, cond, nat_eq, codes}
 use Rattle.js_term.specs.Term.{Text, Terms}
 use Rattle.js_term.specs.declared.kind.Kind.{Kind}
-use Rattle.js_term.specs.declared.kind.Kind.TheVariants as Kind
 use Rattle.js_syntax.specs.Parts.{first_is, is_set_at, count}
 use Rattle.js_syntax.specs.Sorts.{Sort, Place, one, optional, nothing, many, some, single, several, spaced, optional_list, nowhere}
 

@@ -3,7 +3,6 @@
 use Rattle.std.specs.Prelude.{List, [], ◌∷◌, codes}
 use Rattle.js_term.specs.Term.{Text, Term, absent, list, node, Terms, none, more, one, two}
 use Rattle.js_term.specs.declared.kind.Kind.{Kind}
-use Rattle.js_term.specs.declared.kind.Kind.TheVariants as Kind
 use Rattle.js_term.specs.Node.{identifier_of, binding_of, name_of, string_of, number_of, statement_of, call_of, member_of, sequence_of, parenthesized_of}
 use Rattle.js_syntax.specs.Sorts.{Sort}
 use Rattle.js_syntax.specs.Printable.{is_printable, is_printable_at}

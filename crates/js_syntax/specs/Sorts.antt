@@ -2,7 +2,6 @@
 use Rattle.std.specs.Prelude.{List, [], ◌∷◌, Bool, true, false, not, ◌&&◌, ◌||◌, nat_eq, nat_le, codes}
 use Rattle.js_term.specs.Term.{Text, Terms}
 use Rattle.js_term.specs.declared.kind.Kind.{Kind}
-use Rattle.js_term.specs.declared.kind.Kind.TheVariants as Kind
 use Rattle.js_term.specs.Kinds.{is_kind, is_among}
 use Rattle.js_syntax.specs.Parts.{count, is_set_at, first_is, text_at}
 use Rattle.js_syntax.specs.Lexical.{has_sound_escapes}
