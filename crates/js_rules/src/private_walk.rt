@@ -39,8 +39,8 @@ fn is_class(kind: Kind) -> bool
     is_kind(kind, Kind::ClassDeclaration) || is_kind(kind, Kind::ClassExpression)
 }
 
-/// The classes round the part numbered `n`: the first two of a class, its name and its heritage, are outside, its body
-/// is inside.
+/// The classes round the part numbered `n` of a node. The first two parts of a class, its name and its heritage, stand
+/// outside it, and its body inside.
 fn classes_round<'a, V: View>(
     n: usize,
     outside: Option<&'a Outer<'a, V>>,
@@ -51,8 +51,8 @@ fn classes_round<'a, V: View>(
     if n < 2 { outside } else { inside }
 }
 
-/// Whether they are so in each part of the list or node, the first two with these classes outside them, the others with
-/// these inside.
+/// Whether they are so in each part of the list or node: in the first two by the classes outside, in the others by those
+/// inside.
 #[cycle(private)]
 fn parts_have_private_names<V: View>(
     view: V,

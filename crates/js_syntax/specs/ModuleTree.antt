@@ -181,7 +181,7 @@ allows_arguments b k texts ts = true
 abbrev pub has_arguments : Term → Bool
 has_arguments = at_each_node arguments_inside allows_arguments false
 
--- Private names are declared by an enclosing class (15.7.1, 15.7.7, 16.2.1.1). The context has the names that each class
+-- Private names are declared by an enclosing class (15.7.1, 16.2.1.1). The context has the names that each class
 -- round a place declares: those of the keys of its elements. A class is round its body, keys in brackets too, and not
 -- round its heritage (15.7.14).
 abbrev pub private_name : Term → List Text
