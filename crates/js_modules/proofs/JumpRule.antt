@@ -2,7 +2,6 @@
 use Rattle.std.proofs.Common.{◌≡◌, refl, ap, ◌∙◌, sym, ℕ, ◌+◌, ◌<◌, List, Bool, true, false, cond}
 use Rattle.js_term.specs.Term.{Text, Term, list, node, Terms, none, more}
 use Rattle.js_term.specs.declared.kind.Kind.{Kind}
-use Rattle.js_term.specs.declared.kind.Kind.TheVariants as Kind
 use Rattle.js_term.specs.Kinds.{is_kind, is_among}
 use Rattle.js_term.specs.Scope.{kid}
 use Rattle.js_syntax.specs.Everywhere.{everywhere_kids, alike}

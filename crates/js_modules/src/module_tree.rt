@@ -7,9 +7,9 @@ ghost use Rattle.js_rules.specs.SortsSeen.{sort_seen};
 
 use crate::jumps_walk::has_jumps;
 use js_rules::{
-    ArgumentsRule, Home, Initializers, Kind, Leave, LeaveRule, LengthRule, Level, LevelRule,
-    Lexicon, LinksRule, Outer, PartsRule, Place, ShapeRule, Sort, Super, SuperRule, TargetRule,
-    View, at_each_node, everywhere, has_private_names,
+    ArgumentsRule, ExportsRule, Home, Initializers, Kind, Leave, LeaveRule, LengthRule, Lexicon,
+    LinksRule, Outer, PartsRule, Place, ShapeRule, Sort, Super, SuperRule, TargetRule, View,
+    at_each_node, everywhere, has_private_names,
 };
 
 /// Whether the tree that is seen here is a module tree: printable, and without the early errors that the rules name.
@@ -94,7 +94,7 @@ fn no_classes<'a, V: View>() -> Option<&'a Outer<'a, V>>
 pub fn meets_rules<V: View>(view: V) -> bool
     ensures { result ≡ meets_rules (V.term view) }
 {
-    at_each_node::<LevelRule, V>(Level::Inner, view)
+    at_each_node::<ExportsRule, V>(false, view)
         && has_leave(view)
         && has_super_at_home(view)
         && has_jumps(view)

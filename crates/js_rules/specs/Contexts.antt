@@ -1,19 +1,12 @@
 -- The contexts of the rules, as the code holds them.
 use Rattle.js_syntax.specs.Super.{Super, Home}
-use Rattle.js_syntax.specs.ModuleTree.{Level, Leave, Initializers}
+use Rattle.js_syntax.specs.ModuleTree.{Leave, Initializers}
 use Rattle.js_rules.specs.declared.leave.Leave as leave
-use Rattle.js_rules.specs.declared.level.Level as level
-use Rattle.js_rules.specs.declared.level.Level.TheVariants as levels
 use Rattle.js_rules.specs.declared.home.Super as super
 use Rattle.js_rules.specs.declared.home.Super.TheVariants as forms
 use Rattle.js_rules.specs.declared.home.Home as home
 use Rattle.js_rules.specs.declared.initializers.Initializers as initializers
 use Rattle.js_rules.specs.declared.initializers.Initializers.TheVariants as initialized
-
-abbrev pub level_of : level.Level → Level
-level_of levels.Root = Level.root
-level_of levels.Sourceless = Level.sourceless
-level_of levels.Inner = Level.inner
 
 abbrev pub leave_of : leave.Leave → Leave
 leave_of l = record { awaits = l.awaits; yields = l.yields; returns = l.returns; has_target = l.has_target }

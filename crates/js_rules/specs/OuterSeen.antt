@@ -3,10 +3,9 @@ use denote.Ref.{Bor}
 use Rattle.std.specs.Prelude.{List, [], ◌∷◌, Option, None, Some, Bool, true, ◌||◌}
 use Rattle.js_term.specs.Term.{Text, Term, Terms}
 use Rattle.js_term.specs.declared.kind.Kind.{Kind}
-use Rattle.js_term.specs.declared.kind.Kind.TheVariants as Kind
 use Rattle.js_term.specs.Kinds.{is_kind}
 use Rattle.js_syntax.specs.Parts.{parts_of}
-use Rattle.js_syntax.specs.Everywhere.{everywhere_kids, at_each_node}
+use Rattle.js_syntax.specs.Everywhere.{everywhere_kids, at_each_node, first_two_then}
 use Rattle.js_syntax.specs.ModuleTree.{declared_by, classes_inside, allows_private}
 use Rattle.js_rules.specs.declared.outer.Outer.{Outer, Outer', Held-Outer-outer, None', Some'}
 
@@ -28,9 +27,9 @@ module _ {V : Type 0} (term : V → Term) where
   terms_of None = []
   terms_of (Some r) = outer_terms r.now
 
--- the rule on private names, over the parts of a node, and over a tree
-abbrev pub parts_have_private_names : List (List Text) → Terms → Bool
-parts_have_private_names xss ts = everywhere_kids classes_inside (λ c. c) allows_private (λ c us. true) (λ c. true) (λ n. xss) 0 ts
+-- the rule on private names, over the parts of a node, whose first two are outside a class, and over a tree
+abbrev pub parts_have_private_names : List (List Text) → List (List Text) → Terms → Bool
+parts_have_private_names outside inside ts = everywhere_kids classes_inside (λ c. c) allows_private (λ c us. true) (λ c. true) (first_two_then outside inside) 0 ts
 
 abbrev pub has_private_names_in : List (List Text) → Term → Bool
 has_private_names_in = at_each_node classes_inside allows_private

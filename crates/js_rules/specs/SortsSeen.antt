@@ -10,6 +10,7 @@ use Rattle.js_rules.specs.declared.places.PlaceList.TheVariants as places
 
 abbrev pub sort_seen : code_sort.Sort → Sort
 sort_seen (sort.Only k) = Sort.only k
+sort_seen sort.ModuleItem = Sort.module_item
 sort_seen sort.Statement = Sort.statement
 sort_seen sort.Body = Sort.body
 sort_seen sort.ForInit = Sort.for_init

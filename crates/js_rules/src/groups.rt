@@ -1,6 +1,6 @@
 ghost use Rattle.std.specs.Prelude.{◌≡◌};
 ghost use Rattle.js_term.specs.Kinds.{is_among};
-ghost use Rattle.js_syntax.specs.Sorts.{plain_statements, named_declarations, module_declarations, import_specifiers, class_elements, members, calls, literals, primaries, operations, is_expression, patterns, is_simple_target, target_patterns, is_target, plain_keys};
+ghost use Rattle.js_syntax.specs.Sorts.{plain_statements, named_declarations, is_statement, module_declarations, import_specifiers, class_elements, members, calls, literals, primaries, operations, is_expression, patterns, is_simple_target, target_patterns, is_target, plain_keys};
 
 use js_term::{Kind, is_kind};
 
@@ -34,6 +34,12 @@ pub fn is_named_declaration(kind: Kind) -> bool
     ensures { result ≡ is_among kind named_declarations }
 {
     matches!(kind, Kind::FunctionDeclaration | Kind::ClassDeclaration)
+}
+
+pub fn is_statement(kind: Kind) -> bool
+    ensures { result ≡ is_statement kind }
+{
+    is_named_declaration(kind) || is_plain_statement(kind)
 }
 
 pub fn is_module_declaration(kind: Kind) -> bool

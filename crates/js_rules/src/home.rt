@@ -3,9 +3,9 @@ ghost use Rattle.js_syntax.specs.Parts.{parts_of, texts_of};
 ghost use Rattle.js_syntax.specs.Super.{Home as HomeRound, home_inside, allows_super, with_super, class_home, method_home, property_home, allows_object, allows_callee, is_method};
 ghost use Rattle.js_rules.specs.Contexts.{home_of, super_of};
 
-use js_term::Kind;
 use crate::node_rule::NodeRule;
 use crate::view::View;
+use js_term::Kind;
 
 /// No `super`, `super.x` alone, or `super()` too.
 #[derive(Clone, Copy)]

@@ -3,9 +3,9 @@ ghost use Rattle.js_syntax.specs.Parts.{parts_of, texts_of, count_if};
 ghost use Rattle.js_syntax.specs.ModuleTree.{Initializers as InitializersRound, initializers_inside, allows_part, declaration_asks, is_initialized, has_parameters, is_accessor, is_constructor};
 ghost use Rattle.js_rules.specs.Contexts.{initializers_of};
 
-use js_term::Kind;
 use crate::node_rule::NodeRule;
 use crate::view::{View, one_if};
+use js_term::Kind;
 
 /// Which declarators at a place have an initializer; a declaration in the head of `for .. in` or `for .. of` stands
 /// `InHead`.

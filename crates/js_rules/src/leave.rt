@@ -2,9 +2,9 @@ ghost use Rattle.std.specs.Prelude.{◌≡◌};
 ghost use Rattle.js_syntax.specs.ModuleTree.{Leave as LeaveRound, leave_inside, allows_leave, no_leave, body_leave};
 ghost use Rattle.js_rules.specs.Contexts.{leave_of};
 
-use js_term::Kind;
 use crate::node_rule::NodeRule;
 use crate::view::View;
+use js_term::Kind;
 
 /// What may stand at a place: `await`, `yield`, `return` and `new.target`.
 #[derive(Clone, Copy)]

@@ -1,11 +1,11 @@
 //! Whether a tree is a module.
 #![tactic(auto)]
 
+mod exports;
 mod groups;
 mod home;
 mod initializers;
 mod leave;
-mod level;
 mod lexicon;
 mod links;
 mod node_rule;
@@ -20,11 +20,11 @@ mod strict;
 mod view;
 mod walk;
 
+pub use exports::ExportsRule;
 pub use home::{Home, Super, SuperRule};
 pub use initializers::{Initializers, PartsRule};
 pub use js_term::Kind;
 pub use leave::{Leave, LeaveRule};
-pub use level::{Level, LevelRule};
 pub use lexicon::{Lexicon, is_free_name};
 pub use links::LinksRule;
 pub use node_rule::{NodeRule, at_each_node};

@@ -2,9 +2,9 @@ ghost use Rattle.std.specs.Prelude.{◌≡◌, Bool};
 ghost use Rattle.js_syntax.specs.Parts.{parts_of, texts_of};
 ghost use Rattle.js_syntax.specs.Printable.{spine_inside, allows_links, has_link};
 
-use js_term::Kind;
 use crate::node_rule::NodeRule;
 use crate::view::{Form, View};
+use js_term::Kind;
 
 /// Optional links stand only on the spine of a chain, and each chain has one; the context says whether a place is on a
 /// spine.

@@ -4,9 +4,9 @@ ghost use Rattle.js_term.specs.declared.kind.Kind.{Kind as TermKind};
 ghost use Rattle.js_syntax.specs.Everywhere.{at_each_node};
 ghost use Rattle.js_syntax.specs.Parts.{parts_of, texts_of};
 
-use js_term::Kind;
 use crate::view::View;
 use crate::walk::{Rule, everywhere};
+use js_term::Kind;
 use std::marker::PhantomData;
 
 /// A rule that asks at nodes alone; what holds round a list holds round its items.

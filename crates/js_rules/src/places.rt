@@ -3,9 +3,9 @@ ghost use Rattle.js_syntax.specs.Parts.{texts_of};
 ghost use Rattle.js_syntax.specs.Places.{key_place, object_place, function_places, class_places, method_place, value_place, target_place, yield_place, statement_places, module_places, function_kind_places, pattern_places, places, part_places_at, places_at, place_at};
 ghost use Rattle.js_rules.specs.SortsSeen.{sort_seen, place_seen, places_seen};
 
-use js_term::Kind;
 use crate::sort::{Place, Sort};
 use crate::view::View;
+use js_term::Kind;
 
 /// The places of a node's kids.
 #[derive(Clone, Copy)]
@@ -205,7 +205,7 @@ fn module_places<V: View>(kind: Kind, view: &V) -> PlaceList
     match kind {
         Kind::Program => PlaceList::Two(
             Place::Many(Sort::Only(Kind::Directive)),
-            Place::Many(Sort::Statement),
+            Place::Many(Sort::ModuleItem),
         ),
         Kind::ImportDeclaration => PlaceList::Two(
             Place::OptionalList(Sort::ImportSpecifier),

@@ -5,9 +5,9 @@ ghost use Rattle.js_syntax.specs.ModuleTree.{is_declared, declared_by, private_n
 ghost use Rattle.js_term.specs.Scope.{kid};
 ghost use Rattle.js_rules.specs.OuterSeen.{declared_names, terms_of};
 
-use js_term::Kind;
 use crate::outer::Outer;
 use crate::view::View;
+use js_term::Kind;
 
 /// Whether the element of a class declares this private name.
 fn names<V: View>(element: &V, name: &str) -> bool

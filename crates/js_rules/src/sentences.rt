@@ -5,8 +5,8 @@ ghost use Rattle.js_syntax.specs.Parts.{parts_of, texts_of, text_of, text_at, co
 ghost use Rattle.js_syntax.specs.Printable.{ends_open, leaves_else, is_named, is_for_of, is_try, is_default, is_switch, is_template, are_plain_specifiers, is_import_clause, is_constructor_key, is_method_definition, is_value_of, is_one_name, marks_shorthand, is_property, is_sound};
 ghost use Rattle.js_rules.specs.Seen.{from};
 
-use js_term::Kind;
 use crate::view::{Form, View, one_if};
+use js_term::Kind;
 
 /// Whether the statement ends in an `if` without `else`.
 #[tactic(auto, using(crate::proofs::Parts::node_part_is_smaller, crate::proofs::Spines::kid_open))]

@@ -4,13 +4,13 @@ ghost use Rattle.js_syntax.specs.Sorts.{Place as PlaceRound, suits, stands, take
 ghost use Rattle.js_syntax.specs.Printable.{place_inside, places_of, fits};
 ghost use Rattle.js_rules.specs.SortsSeen.{sort_seen, place_seen, places_seen};
 
-use js_term::Kind;
 use crate::lexicon::Lexicon;
 use crate::places::{PlaceList, place_at, place_count, places_at};
 use crate::sentences::is_sound;
 use crate::sort::{Place, Sort, takes};
 use crate::view::View;
 use crate::walk::Rule;
+use js_term::Kind;
 use std::marker::PhantomData;
 
 /// Each node stands at a place that takes it, has the texts and as many parts as its kind asks for, and the sentences on

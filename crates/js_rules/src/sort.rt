@@ -6,7 +6,7 @@ ghost use Rattle.js_rules.specs.SortsSeen.{sort_seen};
 use crate::groups::{
     is_class_element, is_expression, is_import_specifier, is_member, is_module_declaration,
     is_named_declaration, is_pattern, is_plain_key, is_plain_statement, is_simple_target,
-    is_target,
+    is_statement, is_target,
 };
 use js_term::{Kind, is_kind};
 
@@ -15,7 +15,9 @@ use js_term::{Kind, is_kind};
 pub enum Sort {
     /// A node of this kind.
     Only(Kind),
-    /// An item of a list of statements.
+    /// An item of a module's own list: an import, an export or a statement.
+    ModuleItem,
+    /// An item of any other list of statements.
     Statement,
     /// The statement of an `if`, a loop or a label.
     Body,
@@ -84,9 +86,8 @@ pub fn takes(sort: Sort, kind: Kind) -> bool
     { is_kind(kind, other) };
     match sort {
         Sort::Only(only) => is(only),
-        Sort::Statement => {
-            is_named_declaration(kind) || is_plain_statement(kind) || is_module_declaration(kind)
-        }
+        Sort::ModuleItem => is_module_declaration(kind) || is_statement(kind),
+        Sort::Statement => is_statement(kind),
         Sort::Body => is_plain_statement(kind),
         Sort::ForInit => is(Kind::VariableDeclaration) || is_expression(kind),
         Sort::ForLeft => is(Kind::VariableDeclaration) || is_target(kind),

@@ -4,9 +4,9 @@ ghost use Rattle.js_syntax.specs.Parts.{texts_of};
 ghost use Rattle.js_syntax.specs.ModuleTree.{is_strict_name, target_inside, allows_name, arguments_inside, allows_arguments, the_same, allows_length, names};
 ghost use Rattle.std.specs.Prelude.{Bool};
 
-use js_term::Kind;
 use crate::node_rule::NodeRule;
 use crate::view::View;
+use js_term::Kind;
 
 /// No binding and no simple target is `arguments` or `eval`; the context says whether a target stands at a place.
 pub struct TargetRule;

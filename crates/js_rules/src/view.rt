@@ -5,8 +5,8 @@ ghost use Rattle.js_syntax.specs.Parts.{parts_of, texts_of, text_of, is_set_at, 
 ghost use Rattle.js_syntax.specs.Texts.{has_texts};
 ghost use Rattle.js_rules.specs.Seen.{HasForm};
 
-use js_term::{Kind, is_kind};
 use crate::lexicon::Lexicon;
+use js_term::{Kind, is_kind};
 
 /// What stands at a place: nothing, a list, or a node of some kind.
 #[derive(Clone, Copy)]

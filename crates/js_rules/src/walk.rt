@@ -5,8 +5,8 @@ ghost use Rattle.js_syntax.specs.Everywhere.{everywhere};
 ghost use Rattle.js_syntax.specs.Parts.{count, parts_of, texts_of};
 ghost use Rattle.js_rules.specs.Seen.{HasForm};
 
-use js_term::Kind;
 use crate::view::{Form, View};
+use js_term::Kind;
 
 /// A rule over a whole tree: what holds round the kids of a node, and what may stand where that holds.
 pub trait Rule {

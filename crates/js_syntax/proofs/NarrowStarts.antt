@@ -4,7 +4,6 @@ use Rattle.std.proofs.lemmas.Bool.{and_parts}
 use Rattle.std.specs.List.{list_all}
 use Rattle.js_term.specs.Term.{Text, Term, absent, list, node}
 use Rattle.js_term.specs.declared.kind.Kind.{Kind}
-use Rattle.js_term.specs.declared.kind.Kind.TheVariants as Kind
 use Rattle.js_term.specs.Lexeme.{Manner, IsSpelled, is_mark, Token, left_brace, is_blank, front, opens_otherwise}
 use Rattle.js_term.specs.Spells.{is_kind_of_string, is_string_literal, joined, Stands, identifier, boolean, numeric, string_literal, parenthesized, call, member, await_expression, array, object, Listed, last, and, Statements, no_statements, next_statement, Statement, declaration, returns, expression, Declaration, constant, function}
 use Rattle.js_syntax.specs.Edges.{begins_with_brace, begins_with_definition, is_string_kind, has_kind, begins_with_string}

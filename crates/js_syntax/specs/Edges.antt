@@ -1,9 +1,8 @@
 -- What the grammar asks of a part of a tree: the levels of operators, how the text of a part begins and ends, and which
 -- tokens go on with it behind a line end.
 use Rattle.std.specs.Prelude.{ℕ, List, [], ◌∷◌, map, Option, None, Some, Bool, true, false, not, ◌&&◌, ◌||◌, if◌then◌else◌, nat_eq, nat_le, codes}
-use Rattle.js_term.specs.Term.{Text, is_text, Term, absent, list, node, Terms, none, more, first, head}
+use Rattle.js_term.specs.Term.{Text, is_text, Term, absent, list, node, Terms, none, more, head}
 use Rattle.js_term.specs.declared.kind.Kind.{Kind}
-use Rattle.js_term.specs.declared.kind.Kind.TheVariants as Kind
 use Rattle.js_term.specs.Lexeme.{is_one_of}
 use Rattle.js_syntax.specs.Parts.{is_node, is_present, text_of}
 use Rattle.js_syntax.specs.Texts.{unary_operators, update_operators}

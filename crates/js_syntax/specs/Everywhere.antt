@@ -35,3 +35,8 @@ alike c n = c
 abbrev pub first_then : {C : Type 0} → C → C → ℕ → C
 first_then c d zero = c
 first_then c d (suc n) = d
+
+-- what holds round the first two kids, and round the others
+abbrev pub first_two_then : {C : Type 0} → C → C → ℕ → C
+first_two_then c d (suc (suc n)) = d
+first_two_then c d n = c

@@ -2,7 +2,6 @@
 use Rattle.std.specs.Prelude.{◌≡◌, ℕ, suc, List, Option, None, Some, Bool, true, ◌&&◌, if◌then◌else◌, nat_le, codes}
 use Rattle.js_term.specs.Term.{Text, is_text, Term, absent, list, node, Terms, none, more, first, head, rest}
 use Rattle.js_term.specs.declared.kind.Kind.{Kind}
-use Rattle.js_term.specs.declared.kind.Kind.TheVariants as Kind
 use Rattle.js_syntax.specs.Edges.{binary_level, is_coalesce_left, member_level}
 use Rattle.js_syntax.specs.Spelling.{Stands}
 

@@ -3,37 +3,28 @@
 use Rattle.std.specs.Prelude.{ℕ, suc, List, [], ◌∷◌, ◌++◌, Bool, true, false, cond, not, ◌&&◌, ◌||◌, length, nat_eq, nat_le, codes}
 use Rattle.js_term.specs.Term.{Text, Term, absent, node, Terms, none, more}
 use Rattle.js_term.specs.declared.kind.Kind.{Kind}
-use Rattle.js_term.specs.declared.kind.Kind.TheVariants as Kind
 use Rattle.js_term.specs.Scope.{kid}
 use Rattle.js_term.specs.Lexeme.{is_one_of}
-use Rattle.js_syntax.specs.Everywhere.{at_each_node, first_then}
+use Rattle.js_syntax.specs.Everywhere.{at_each_node, first_then, first_two_then}
 use Rattle.js_term.specs.Kinds.{is_among}
 use Rattle.js_syntax.specs.Parts.{parts_of, texts_of, text_of, text_at, first_is, is_set_at, is_node, is_present, count, count_if}
-use Rattle.js_syntax.specs.Sorts.{Sort, module_declarations}
+use Rattle.js_syntax.specs.Sorts.{Sort}
 use Rattle.js_syntax.specs.Super.{has_super_at_home}
 use Rattle.js_syntax.specs.Printable.{is_printable_at}
 
--- Rule 1 (16.2). Imports and exports stand at the root; sourceless specifiers name identifiers (16.2.3.1). The rest
--- of the rule is of printable trees: a namespace specifier is last, behind at most a default one, and exported
--- declarations have names.
-pub data Level : Type 0 where
-  -- the statements of a module; the specifiers of an `export` without a source; any other place
-  root : Level
-  sourceless : Level
-  inner : Level
+-- Rule 1 (16.2.3.1). What an `export` without a source exports is named by an identifier. The context says whether
+-- specifiers of such an `export` stand at a place. The rest of 16.2 is of printable trees: imports and exports stand
+-- in the module's own list, a namespace specifier is last, behind at most a default one, and exported declarations
+-- have names.
+abbrev pub exports_inside : Bool → Kind → List Text → Terms → ℕ → Bool
+exports_inside b Kind.ExportNamedDeclaration texts ts n = true
+exports_inside b k texts ts n = false
 
-abbrev pub level_inside : Level → Kind → List Text → Terms → ℕ → Level
-level_inside l Kind.Program texts ts n = root
-level_inside l Kind.ExportNamedDeclaration texts ts n = sourceless
-level_inside l k texts ts n = inner
+abbrev pub allows_export : Bool → Kind → List Text → Terms → Bool
+allows_export b k texts ts = not b || is_node Kind.Identifier (kid 0 ts)
 
-abbrev pub allows_item : Level → Kind → List Text → Terms → Bool
-allows_item root k texts ts = true
-allows_item sourceless k texts ts = is_node Kind.Identifier (kid 0 ts)
-allows_item inner k texts ts = not (is_among k module_declarations)
-
-abbrev pub has_items_at_root : Term → Bool
-has_items_at_root = at_each_node level_inside allows_item inner
+abbrev pub exports_identifiers : Term → Bool
+exports_identifiers = at_each_node exports_inside allows_export false
 
 -- Rule 2. Of the functions, arrows, field initializers and static blocks round a node the innermost one decides:
 -- `await` and `for await` stand in the body of an async function or arrow, or where there is none round them
@@ -190,8 +181,9 @@ allows_arguments b k texts ts = true
 abbrev pub has_arguments : Term → Bool
 has_arguments = at_each_node arguments_inside allows_arguments false
 
--- Private names are declared by an enclosing class (15.7.1, 16.2.1.1). The context has the names that each class round
--- a place declares: those of the keys of its elements.
+-- Private names are declared by an enclosing class (15.7.1, 16.2.1.1). The context has the names that each class
+-- round a place declares: those of the keys of its elements. A class is round its body, keys in brackets too, and not
+-- round its heritage (15.7.14).
 abbrev pub private_name : Term → List Text
 private_name t = cond (is_node Kind.PrivateIdentifier t) (text_of t ∷ []) []
 
@@ -204,8 +196,8 @@ abbrev pub declared_by : Terms → List Text
 declared_by ts = private_names (parts_of (kid 0 (parts_of (kid 2 ts))))
 
 abbrev pub classes_inside : List (List Text) → Kind → List Text → Terms → ℕ → List (List Text)
-classes_inside xss Kind.ClassDeclaration texts ts n = declared_by ts ∷ xss
-classes_inside xss Kind.ClassExpression texts ts n = declared_by ts ∷ xss
+classes_inside xss Kind.ClassDeclaration texts ts n = first_two_then xss (declared_by ts ∷ xss) n
+classes_inside xss Kind.ClassExpression texts ts n = first_two_then xss (declared_by ts ∷ xss) n
 classes_inside xss k texts ts n = xss
 
 abbrev pub is_declared : Text → List (List Text) → Bool
@@ -285,7 +277,7 @@ has_short_names = at_each_node the_same allows_length tt
 
 -- the six rules
 abbrev pub meets_rules : Term → Bool
-meets_rules t = has_items_at_root t && has_leave t && has_super_at_home t && has_jumps t && has_strict_names t && has_arguments t && has_private_names t && has_parts t
+meets_rules t = exports_identifiers t && has_leave t && has_super_at_home t && has_jumps t && has_strict_names t && has_arguments t && has_private_names t && has_parts t
 
 -- a tree that may stand at a place of this sort at module level
 abbrev pub is_sound_at : Sort → Term → Bool

@@ -173,7 +173,9 @@ pub record ModuleTreeExamples : Type 0 where
   pub a_declared_private_name : Statement (class_a (two field_a (method_doing (private_member_of a)))) (class_a (two (field key_a absent) (method_doing (private_member_of a))))
   pub a_private_name_before_its_key : Statement (class_a (two (method_doing private_in_a) field_a)) (class_a (one (method_doing private_in_a)))
   pub a_private_name_of_an_outer_class : Statement (class_a (two field_a (static_block (one (class_a (one (method_doing private_in_a))))))) (class_a (one (static_block (two (class_a (one field_a)) (statement_of private_in_a)))))
-  pub a_private_name_in_the_heritage : Statement (class_extends (private_member_of a) (one field_a)) (class_extends (private_member_of a) none)
+  pub a_private_name_in_a_key : Statement (class_a (two field_a (computed_field (private_member_of a) a))) (class_a (two (field key_a absent) (computed_field (private_member_of a) a)))
+  pub none_in_the_heritage : Statement (class_a (two field_a (computed_field (private_member_of a) a))) (class_extends (private_member_of a) (one field_a))
+  pub but_one_of_an_outer_class : Statement (class_a (two field_a (static_block (one (class_extends (private_member_of a) none))))) (class_a (one (static_block (one (class_extends (private_member_of a) (one field_a))))))
   -- 6. parameters, initializers, constructors
   pub a_getter : Statement (accessor (codes "get") no_parameters) (accessor (codes "get") (parameter_with absent))
   pub a_setter : Statement (accessor (codes "set") (parameter_with absent)) (accessor (codes "set") no_parameters)

@@ -2,7 +2,6 @@
 use Rattle.std.specs.Prelude.{List, [], ◌∷◌, Bool, codes}
 use Rattle.js_term.specs.Term.{Text, Term, list, node, Terms, none, more, one, two, all, flag}
 use Rattle.js_term.specs.declared.kind.Kind.{Kind}
-use Rattle.js_term.specs.declared.kind.Kind.TheVariants as Kind
 use Rattle.js_term.specs.Node.{name_of}
 
 abbrev pub three : Term → Term → Term → Terms

@@ -2,7 +2,6 @@
 use Rattle.std.specs.Prelude.{ℕ, zero, suc, List, [], ◌∷◌, length, Bool, true, false, cond, nat_eq, codes}
 use Rattle.js_term.specs.Term.{Text, Terms}
 use Rattle.js_term.specs.declared.kind.Kind.{Kind}
-use Rattle.js_term.specs.declared.kind.Kind.TheVariants as Kind
 use Rattle.js_syntax.specs.Parts.{first_is, is_set_at, count}
 use Rattle.js_syntax.specs.Sorts.{Sort, Place, one, optional, nothing, many, some, single, several, spaced, optional_list, nowhere}
 
@@ -63,9 +62,9 @@ statement_places Kind.VariableDeclaration texts = some (Sort.only Kind.VariableD
 statement_places Kind.VariableDeclarator texts = one Sort.pattern ∷ optional Sort.expression ∷ []
 statement_places k texts = []
 
--- modules (16.2)
+-- modules, whose own list alone has imports and exports (16.2)
 abbrev pub module_places : Kind → List Text → List Place
-module_places Kind.Program texts = many (Sort.only Kind.Directive) ∷ many Sort.statement ∷ []
+module_places Kind.Program texts = many (Sort.only Kind.Directive) ∷ many Sort.module_item ∷ []
 module_places Kind.ImportDeclaration texts = optional_list Sort.import_specifier ∷ one (Sort.only Kind.StringLiteral) ∷ []
 module_places Kind.ImportSpecifier texts = one Sort.module_export_name ∷ one (Sort.only Kind.BindingIdentifier) ∷ []
 module_places Kind.ImportDefaultSpecifier texts = one (Sort.only Kind.BindingIdentifier) ∷ []

@@ -3,7 +3,6 @@
 use Rattle.std.specs.Prelude.{ℕ, zero, suc, List, Bool, true, false, not, ◌&&◌, ◌||◌, nat_eq, nat_le, codes}
 use Rattle.js_term.specs.Term.{Text, is_text, Term, node, Terms, none, more}
 use Rattle.js_term.specs.declared.kind.Kind.{Kind}
-use Rattle.js_term.specs.declared.kind.Kind.TheVariants as Kind
 use Rattle.js_term.specs.Scope.{kid}
 use Rattle.js_syntax.specs.Everywhere.{everywhere, at_each_node, first_then}
 use Rattle.js_syntax.specs.Parts.{parts_of, text_of, text_at, first_is, is_set, is_set_at, is_node, is_present, count, count_if, each}

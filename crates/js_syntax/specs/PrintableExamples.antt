@@ -3,11 +3,10 @@
 use Rattle.std.specs.Prelude.{List, [], ◌∷◌, codes}
 use Rattle.js_term.specs.Term.{Text, Term, absent, list, node, Terms, none, more, one, two}
 use Rattle.js_term.specs.declared.kind.Kind.{Kind}
-use Rattle.js_term.specs.declared.kind.Kind.TheVariants as Kind
 use Rattle.js_term.specs.Node.{identifier_of, binding_of, name_of, string_of, number_of, statement_of, call_of, member_of, sequence_of, parenthesized_of}
 use Rattle.js_syntax.specs.Sorts.{Sort}
 use Rattle.js_syntax.specs.Printable.{is_printable, is_printable_at}
-use Rattle.js_syntax.specs.Trees.{a, b, binding_a, key_a, private_a, super, super_a, super_call, linked, chain_of, computed_of, private_member_of, assignment_of, binary_of, element_of, template_of, tagged_of, spread_of, array_of, no_parameters, no_statements, parameter_with, function_with, declared_function, plain, async, generator, function_a, function_doing, empty_statement, block, if_else, while, labeled, for_in, for_of, for_await, switch, declarator, declaration, array_pattern, pattern_with, object_pattern, object_rest_of, array_target, object_target, object_target_rest_of, target_with, object_of_one, property, property_a, object_method, class_body_of, class_a, method_with, of_kind, method_doing, field, import_of, default_a, namespace_a, named_a, export_of, export_from, export_default, export_declared, Tells}
+use Rattle.js_syntax.specs.Trees.{a, b, binding_a, key_a, private_a, super, super_a, super_call, linked, chain_of, computed_of, private_member_of, assignment_of, binary_of, element_of, template_of, tagged_of, spread_of, array_of, no_parameters, no_statements, parameter_with, function_with, declared_function, plain, async, generator, function_a, function_doing, empty_statement, block, if_else, while, labeled, for_in, for_of, for_await, switch, declarator, declaration, array_pattern, pattern_with, object_pattern, object_rest_of, array_target, object_target, object_target_rest_of, target_with, object_of_one, property, property_a, object_method, class_body_of, class_a, method_with, of_kind, method_doing, field, import_of, default_a, namespace_a, named_a, export_of, export_from, export_default, export_declared, static_block, module_of, Tells}
 
 abbrev pub Expression : Term → Term → Type 0
 Expression = Tells (is_printable_at Sort.expression)
@@ -15,8 +14,16 @@ Expression = Tells (is_printable_at Sort.expression)
 abbrev pub Statement : Term → Term → Type 0
 Statement = Tells (is_printable_at Sort.statement)
 
+-- an import, an export or a statement
+abbrev pub Item : Term → Term → Type 0
+Item = Tells (is_printable_at Sort.module_item)
+
 abbrev pub Modules : Term → Term → Type 0
 Modules = Tells is_printable
+
+-- of modules of one item
+abbrev pub Module : Term → Term → Type 0
+Module = Tells (λ t. is_printable (module_of t))
 
 -- try { } handler finalizer
 abbrev pub try_of : Term → Term → Term
@@ -70,6 +77,13 @@ computed kind = kind ∷ codes "computed" ∷ [] ∷ []
 abbrev pub static : Text → List Text
 static kind = kind ∷ [] ∷ codes "static" ∷ []
 
+-- import { a } from 'a'; export default a;
+abbrev pub import_a : Term
+import_a = import_of (one named_a)
+
+abbrev pub export_a : Term
+export_a = export_default a
+
 -- { a } with a mark of shorthand
 abbrev pub shorthand_property : Term → Term
 shorthand_property t = property (codes "init" ∷ [] ∷ codes "shorthand" ∷ [] ∷ []) key_a t
@@ -89,10 +103,10 @@ pub record PrintableExamples : Type 0 where
   pub one_text_more : Expression (template_of (two (element_of []) (element_of [])) (one a)) (template_of (one (element_of [])) (one a))
   pub one_text : Expression (template_of (one (element_of [])) none) (template_of none none)
   pub a_function_has_a_name : Statement (function_a plain none) function_unnamed
-  pub an_exported_function_too : Statement (export_declared (function_a plain none)) (export_declared function_unnamed)
-  pub but_for_a_default : Statement (export_default function_unnamed) function_unnamed
+  pub an_exported_function_too : Item (export_declared (function_a plain none)) (export_declared function_unnamed)
+  pub but_for_a_default : Item (export_default function_unnamed) function_unnamed
   pub a_class_has_a_name : Statement (class_a none) class_unnamed
-  pub but_for_a_default_class : Statement (export_default class_unnamed) (export_declared class_unnamed)
+  pub but_for_a_default_class : Item (export_default class_unnamed) (export_declared class_unnamed)
   pub two_in_a_sequence : Expression (sequence_of (two a b)) (sequence_of (one a))
   pub one_default : Statement (switch none) (node Kind.SwitchStatement [] (two a (list (two (node Kind.SwitchCase [] (two absent (list none))) (node Kind.SwitchCase [] (two absent (list none)))))))
   pub an_argument_of_yield : Expression (yield_with (codes "*") a) (yield_with (codes "*") absent)
@@ -114,11 +128,24 @@ pub record PrintableExamples : Type 0 where
   pub a_target : Expression (assignment_of (codes "+=") (member_of a (codes "b")) b) (assignment_of (codes "+=") (call_of a none) b)
   pub a_head_without_value : Statement (for_of (declaration (codes "const") binding_a absent)) (for_of (declaration (codes "const") binding_a b))
   pub a_head_of_one : Statement (for_in (var_of (one (declarator binding_a absent)))) (for_in (var_of (two (declarator binding_a absent) (declarator binding_a absent))))
-  pub a_name_of_another_module : Statement (export_from (string_of (codes "b"))) (export_from a)
-  pub a_name_of_this_module : Statement (export_of a) (export_of key_a)
-  pub a_namespace_last : Statement (import_of (two default_a namespace_a)) (import_of (two named_a namespace_a))
-  pub a_default_first : Statement (import_of (two default_a named_a)) (import_of (two named_a default_a))
-  pub one_default_import : Statement (import_of (one default_a)) (import_of (two default_a default_a))
+  -- imports and exports stand in the module's own list
+  pub an_import : Module import_a (block (one import_a))
+  pub an_export : Module export_a (block (one export_a))
+  pub no_import_in_a_function : Module (function_a plain none) (function_a plain (one import_a))
+  pub no_export_in_a_function : Module (function_a plain none) (function_a plain (one export_a))
+  pub no_import_behind_a_label : Module (labeled (codes "a") empty_statement) (labeled (codes "a") import_a)
+  pub no_export_behind_a_label : Module (labeled (codes "a") empty_statement) (labeled (codes "a") export_a)
+  pub no_import_in_an_if : Module (if_else empty_statement absent) (if_else import_a absent)
+  pub no_export_in_an_if : Module (if_else empty_statement absent) (if_else export_a absent)
+  pub no_import_in_a_static_block : Module (class_a (one (static_block none))) (class_a (one (static_block (one import_a))))
+  pub no_export_in_a_static_block : Module (class_a (one (static_block none))) (class_a (one (static_block (one export_a))))
+  pub no_export_in_a_case : Module (switch none) (switch (one export_a))
+  pub no_export_as_a_statement : Statement empty_statement export_a
+  pub a_name_of_another_module : Item (export_from (string_of (codes "b"))) (export_from a)
+  pub a_name_of_this_module : Item (export_of a) (export_of key_a)
+  pub a_namespace_last : Item (import_of (two default_a namespace_a)) (import_of (two named_a namespace_a))
+  pub a_default_first : Item (import_of (two default_a named_a)) (import_of (two named_a default_a))
+  pub one_default_import : Item (import_of (one default_a)) (import_of (two default_a default_a))
   -- texts
   pub an_identifier_name : Expression (member_of a (codes "if")) (member_of a (codes "1"))
   pub a_reserved_reference : Expression (identifier_of (codes "as")) (identifier_of (codes "if"))

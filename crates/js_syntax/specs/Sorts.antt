@@ -2,7 +2,6 @@
 use Rattle.std.specs.Prelude.{List, [], ◌∷◌, Bool, true, false, not, ◌&&◌, ◌||◌, nat_eq, nat_le, codes}
 use Rattle.js_term.specs.Term.{Text, Terms}
 use Rattle.js_term.specs.declared.kind.Kind.{Kind}
-use Rattle.js_term.specs.declared.kind.Kind.TheVariants as Kind
 use Rattle.js_term.specs.Kinds.{is_kind, is_among}
 use Rattle.js_syntax.specs.Parts.{count, is_set_at, first_is, text_at}
 use Rattle.js_syntax.specs.Lexical.{has_sound_escapes}
@@ -10,7 +9,8 @@ use Rattle.js_syntax.specs.Lexical.{has_sound_escapes}
 pub data Sort : Type 0 where
   -- a node of this kind
   only : Kind → Sort
-  -- an item of a list of statements
+  -- an item of a module's own list, an import, an export or a statement (16.2); of any other list of statements
+  module_item : Sort
   statement : Sort
   -- the statement of an `if`, a loop or a label
   body : Sort
@@ -72,6 +72,7 @@ pub data Place : Type 0 where
 abbrev pub plain_statements : List Kind
 plain_statements = Kind.BlockStatement ∷ Kind.BreakStatement ∷ Kind.ContinueStatement ∷ Kind.DebuggerStatement ∷ Kind.DoWhileStatement ∷ Kind.EmptyStatement ∷ Kind.ExpressionStatement ∷ Kind.ForInStatement ∷ Kind.ForOfStatement ∷ Kind.ForStatement ∷ Kind.IfStatement ∷ Kind.LabeledStatement ∷ Kind.ReturnStatement ∷ Kind.SwitchStatement ∷ Kind.ThrowStatement ∷ Kind.TryStatement ∷ Kind.WhileStatement ∷ Kind.VariableDeclaration ∷ []
 
+-- ImportDeclaration and ExportDeclaration (16.2.2, 16.2.3)
 abbrev pub module_declarations : List Kind
 module_declarations = Kind.ImportDeclaration ∷ Kind.ExportAllDeclaration ∷ Kind.ExportNamedDeclaration ∷ Kind.ExportFromDeclaration ∷ Kind.ExportDeclaration ∷ Kind.ExportDefaultDeclaration ∷ []
 
@@ -116,6 +117,10 @@ plain_keys = Kind.IdentifierName ∷ Kind.StringLiteral ∷ Kind.NumericLiteral 
 abbrev pub named_declarations : List Kind
 named_declarations = Kind.FunctionDeclaration ∷ Kind.ClassDeclaration ∷ []
 
+-- StatementListItem (14.2)
+abbrev pub is_statement : Kind → Bool
+is_statement k = is_among k named_declarations || is_among k plain_statements
+
 abbrev pub import_specifiers : List Kind
 import_specifiers = Kind.ImportSpecifier ∷ Kind.ImportDefaultSpecifier ∷ Kind.ImportNamespaceSpecifier ∷ []
 
@@ -124,7 +129,8 @@ class_elements = Kind.StaticBlock ∷ Kind.MethodDefinition ∷ Kind.PropertyDef
 
 abbrev pub takes : Sort → Kind → Bool
 takes (Sort.only j) k = is_kind k j
-takes Sort.statement k = is_among k named_declarations || is_among k plain_statements || is_among k module_declarations
+takes Sort.module_item k = is_among k module_declarations || is_statement k
+takes Sort.statement k = is_statement k
 takes Sort.body k = is_among k plain_statements
 takes Sort.for_init k = is_kind k Kind.VariableDeclaration || is_expression k
 takes Sort.for_left k = is_kind k Kind.VariableDeclaration || is_target k

@@ -1,9 +1,8 @@
 -- Which text spells which module: the grammar of ECMAScript 13 to 16, one constructor for each row. Each relation holds
 -- between a part of a tree, a text at whose front the part stands behind a gap, and the rest that it leaves.
-use Rattle.std.specs.Prelude.{◌≡◌, ◌≤◌, ℕ, suc, List, [], ◌∷◌, Some, Bool, true, false, not, ◌&&◌, ◌||◌, codes}
+use Rattle.std.specs.Prelude.{◌≡◌, ◌≤◌, ℕ, suc, List, [], ◌∷◌, Some, Bool, true, false, not, ◌||◌, codes}
 use Rattle.js_term.specs.Term.{Text, is_text, Term, absent, list, node, none, one, two, all}
 use Rattle.js_term.specs.declared.kind.Kind.{Kind}
-use Rattle.js_term.specs.declared.kind.Kind.TheVariants as Kind
 use Rattle.js_term.specs.Lexeme.{is_reserved, is_one_of}
 use Rattle.js_term.specs.Node.{identifier_of, binding_of, name_of, string_of, number_of, truth, boolean_of, sequence_of, await_of, array_of, object_of, parenthesized_of, return_of, statement_of}
 use Rattle.js_syntax.specs.Lexical.{has_sound_escapes}

@@ -3,7 +3,6 @@
 use Rattle.std.specs.Prelude.{ℕ, List, Bool, true, false, cond, codes, ◌||◌}
 use Rattle.js_term.specs.Term.{Text, Term, absent, node, Terms}
 use Rattle.js_term.specs.declared.kind.Kind.{Kind}
-use Rattle.js_term.specs.declared.kind.Kind.TheVariants as Kind
 use Rattle.js_term.specs.Scope.{kid}
 use Rattle.js_syntax.specs.Everywhere.{at_each_node, first_then}
 use Rattle.js_syntax.specs.Parts.{first_is, is_set_at}

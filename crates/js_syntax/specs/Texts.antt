@@ -2,7 +2,6 @@
 use Rattle.std.specs.Prelude.{ℕ, suc, nat_eq, length, ◌||◌, List, [], ◌∷◌, Bool, true, not, ◌&&◌, map, codes}
 use Rattle.js_term.specs.Term.{Text}
 use Rattle.js_term.specs.declared.kind.Kind.{Kind}
-use Rattle.js_term.specs.declared.kind.Kind.TheVariants as Kind
 use Rattle.js_term.specs.Lexeme.{is_reserved, is_one_of}
 use Rattle.js_syntax.specs.Parts.{text_at}
 use Rattle.js_syntax.specs.Lexical.{is_name, is_numeral, is_big_integer, is_raw_string, is_template_text, is_regexp_body, is_regexp_flags, is_hashbang}

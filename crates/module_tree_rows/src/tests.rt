@@ -1,7 +1,8 @@
 use crate::rows::{
-    ACCESSOR_ROWS, ARGUMENTS_ROWS, AWAIT_ROWS, BINDING_ROWS, CLAUSE_ROWS, FUNCTION_JUMP_ROWS,
-    INITIALIZER_ROWS, JUMP_ROWS, LABEL_ROWS, LEVEL_ROWS, PLACE_ROWS, PRIVATE_ROWS, RETURN_ROWS,
-    Row, STATEMENT_ROWS, SUPER_CALL_ROWS, SUPER_ROWS, TARGET_ROWS, TEXT_ROWS, YIELD_ROWS,
+    ACCESSOR_ROWS, ARGUMENTS_ROWS, AWAIT_ROWS, BINDING_ROWS, CLAUSE_ROWS, EXPORT_ROWS,
+    FUNCTION_JUMP_ROWS, HERITAGE_ROWS, INITIALIZER_ROWS, ITEM_ROWS, JUMP_ROWS, LABEL_ROWS,
+    PLACE_ROWS, PRIVATE_ROWS, RETURN_ROWS, Row, STATEMENT_ROWS, SUPER_CALL_ROWS, SUPER_ROWS,
+    TARGET_ROWS, TEXT_ROWS, YIELD_ROWS,
 };
 use crate::{NotationError, read};
 use js_modules::{is_module_tree, is_printable};
@@ -64,7 +65,13 @@ fn assert_rows(
 
 #[test]
 fn imports_and_exports(rt: HostRuntime) -> Result<(), Fail> {
-    assert_rows(&rt, rt.alloc(), &LEVEL_ROWS, Verdict::Printable)?;
+    assert_rows(&rt, rt.alloc(), &ITEM_ROWS, Verdict::Unprintable)?;
+    Ok(())
+}
+
+#[test]
+fn exported_names(rt: HostRuntime) -> Result<(), Fail> {
+    assert_rows(&rt, rt.alloc(), &EXPORT_ROWS, Verdict::Printable)?;
     Ok(())
 }
 
@@ -137,6 +144,12 @@ fn arguments_in_classes(rt: HostRuntime) -> Result<(), Fail> {
 #[test]
 fn private_names(rt: HostRuntime) -> Result<(), Fail> {
     assert_rows(&rt, rt.alloc(), &PRIVATE_ROWS, Verdict::Printable)?;
+    Ok(())
+}
+
+#[test]
+fn private_names_in_a_heritage(rt: HostRuntime) -> Result<(), Fail> {
+    assert_rows(&rt, rt.alloc(), &HERITAGE_ROWS, Verdict::Printable)?;
     Ok(())
 }
 

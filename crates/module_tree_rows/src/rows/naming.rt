@@ -351,7 +351,7 @@ pub static ARGUMENTS_ROWS: [Row; 10] = [
 ];
 
 /// Rule 5: private names.
-pub static PRIVATE_ROWS: [Row; 15] = [
+pub static PRIVATE_ROWS: [Row; 14] = [
     Row {
         clause: "15.7.1: a field declares a private name",
         frame: "(ClassDeclaration (BindingIdentifier 'C') _ (ClassBody [(PropertyDefinition '' '' @ _) (MethodDefinition 'method' '' '' (IdentifierName 'm') (FunctionExpression '' '' _ (FormalParameters [] _) (FunctionBody [] [(ExpressionStatement (PrivateFieldExpression '' (Identifier 'b') (PrivateIdentifier 'a')))])))]))",
@@ -419,12 +419,6 @@ pub static PRIVATE_ROWS: [Row; 15] = [
         broken: "(ClassDeclaration (BindingIdentifier 'C') _ (ClassBody [(PropertyDefinition '' '' (PrivateIdentifier 'a') _)])) (ClassDeclaration (BindingIdentifier 'D') _ (ClassBody [(MethodDefinition 'method' '' '' (IdentifierName 'm') (FunctionExpression '' '' _ (FormalParameters [] _) (FunctionBody [] [(ExpressionStatement (PrivateFieldExpression '' (Identifier 'b') (PrivateIdentifier 'a')))])))]))",
     },
     Row {
-        clause: "15.7.1: a private name in the heritage is one of the class",
-        frame: "(ClassDeclaration (BindingIdentifier 'C') (PrivateFieldExpression '' (ParenthesizedExpression (ClassExpression _ _ (ClassBody []))) (PrivateIdentifier 'a')) (ClassBody [(PropertyDefinition '' '' @ _)]))",
-        sound: "(PrivateIdentifier 'a')",
-        broken: "(IdentifierName 'a')",
-    },
-    Row {
         clause: "15.7.1: a private name in a key is one of the class",
         frame: "(ClassDeclaration (BindingIdentifier 'C') _ (ClassBody [(PropertyDefinition 'computed' '' (PrivateFieldExpression '' (Identifier 'b') (PrivateIdentifier 'a')) _) (PropertyDefinition '' '' @ _)]))",
         sound: "(PrivateIdentifier 'a')",
@@ -441,5 +435,45 @@ pub static PRIVATE_ROWS: [Row; 15] = [
         frame: "@",
         sound: "(ClassDeclaration (BindingIdentifier 'C') _ (ClassBody [(PropertyDefinition '' '' (PrivateIdentifier 'a') _) (StaticBlock [(ExpressionStatement (PrivateInExpression (PrivateIdentifier 'a') (Identifier 'b')))])]))",
         broken: "(ClassDeclaration (BindingIdentifier 'C') _ (ClassBody [(PropertyDefinition '' '' (PrivateIdentifier 'a') _)])) (ExpressionStatement (PrivateInExpression (PrivateIdentifier 'a') (Identifier 'b')))",
+    },
+];
+
+/// Rule 5: private names in a class's heritage.
+pub static HERITAGE_ROWS: [Row; 6] = [
+    Row {
+        clause: "15.7.14: no private name of the class",
+        frame: "(ClassDeclaration (BindingIdentifier 'A') @ (ClassBody [(PropertyDefinition '' '' (PrivateIdentifier 'x') _)]))",
+        sound: "_",
+        broken: "(PrivateFieldExpression '' (Identifier 'o') (PrivateIdentifier 'x'))",
+    },
+    Row {
+        clause: "15.7.14: nor of a class expression",
+        frame: "(ExpressionStatement (ParenthesizedExpression (ClassExpression _ @ (ClassBody [(PropertyDefinition '' '' (PrivateIdentifier 'x') _)]))))",
+        sound: "(Identifier 'o')",
+        broken: "(PrivateFieldExpression '' (Identifier 'o') (PrivateIdentifier 'x'))",
+    },
+    Row {
+        clause: "15.7.1: but in a key of the class",
+        frame: "@",
+        sound: "(ClassDeclaration (BindingIdentifier 'A') _ (ClassBody [(PropertyDefinition '' '' (PrivateIdentifier 'x') _) (PropertyDefinition 'computed' '' (PrivateFieldExpression '' (Identifier 'o') (PrivateIdentifier 'x')) _)]))",
+        broken: "(ClassDeclaration (BindingIdentifier 'A') (PrivateFieldExpression '' (Identifier 'o') (PrivateIdentifier 'x')) (ClassBody [(PropertyDefinition '' '' (PrivateIdentifier 'x') _)]))",
+    },
+    Row {
+        clause: "15.7.1: one of a class round it",
+        frame: "(ClassDeclaration (BindingIdentifier 'C') _ (ClassBody [(PropertyDefinition '' '' @ _) (StaticBlock [(ClassDeclaration (BindingIdentifier 'A') (PrivateFieldExpression '' (Identifier 'o') (PrivateIdentifier 'x')) (ClassBody [(PropertyDefinition '' '' (PrivateIdentifier 'x') _)]))])]))",
+        sound: "(PrivateIdentifier 'x')",
+        broken: "(IdentifierName 'x')",
+    },
+    Row {
+        clause: "15.7.1: also in a method there",
+        frame: "(ClassDeclaration (BindingIdentifier 'A') _ (ClassBody [(PropertyDefinition '' '' @ _) (MethodDefinition 'method' '' '' (IdentifierName 'm') (FunctionExpression '' '' _ (FormalParameters [] _) (FunctionBody [] [(ClassDeclaration (BindingIdentifier 'B') (PrivateFieldExpression '' (ThisExpression) (PrivateIdentifier 'x')) (ClassBody []))])))]))",
+        sound: "(PrivateIdentifier 'x')",
+        broken: "(IdentifierName 'x')",
+    },
+    Row {
+        clause: "15.7.1: a class in the heritage has names of its own",
+        frame: "(ClassDeclaration (BindingIdentifier 'A') (ClassExpression _ _ (ClassBody [@ (PropertyDefinition '' '' (IdentifierName 'y') (PrivateFieldExpression '' (Identifier 'o') (PrivateIdentifier 'x')))])) (ClassBody [(PropertyDefinition '' '' (PrivateIdentifier 'x') _)]))",
+        sound: "(PropertyDefinition '' '' (PrivateIdentifier 'x') _)",
+        broken: "(PropertyDefinition '' '' (IdentifierName 'x') _)",
     },
 ];

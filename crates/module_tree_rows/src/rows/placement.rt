@@ -2,8 +2,8 @@
 
 use crate::rows::Row;
 
-/// Rule 1: imports and exports stand at the root, and exports of this module name identifiers.
-pub static LEVEL_ROWS: [Row; 13] = [
+/// Imports and exports stand in the module's own list.
+pub static ITEM_ROWS: [Row; 16] = [
     Row {
         clause: "16.2.2: an import stands at the root, not in a block",
         frame: "@",
@@ -64,6 +64,46 @@ pub static LEVEL_ROWS: [Row; 13] = [
         sound: "(SwitchStatement (Identifier 'a') [(SwitchCase _ [])]) (ExportNamedDeclaration [])",
         broken: "(SwitchStatement (Identifier 'a') [(SwitchCase _ [(ExportNamedDeclaration [])])])",
     },
+    Row {
+        clause: "16.2: no export in a function",
+        frame: "@",
+        sound: "(FunctionDeclaration '' '' (BindingIdentifier 'f') (FormalParameters [] _) (FunctionBody [] [])) (ExportNamedDeclaration [])",
+        broken: "(FunctionDeclaration '' '' (BindingIdentifier 'f') (FormalParameters [] _) (FunctionBody [] [(ExportNamedDeclaration [])]))",
+    },
+    Row {
+        clause: "16.2: no import in a static block",
+        frame: "@",
+        sound: "(ClassDeclaration (BindingIdentifier 'C') _ (ClassBody [(StaticBlock [])])) (ImportDeclaration [(ImportDefaultSpecifier (BindingIdentifier 'a'))] (StringLiteral 'm'))",
+        broken: "(ClassDeclaration (BindingIdentifier 'C') _ (ClassBody [(StaticBlock [(ImportDeclaration [(ImportDefaultSpecifier (BindingIdentifier 'a'))] (StringLiteral 'm'))])]))",
+    },
+    Row {
+        clause: "14.13: no import behind a label",
+        frame: "@",
+        sound: "(LabeledStatement (LabelIdentifier 'a') (EmptyStatement)) (ImportDeclaration [(ImportDefaultSpecifier (BindingIdentifier 'a'))] (StringLiteral 'm'))",
+        broken: "(LabeledStatement (LabelIdentifier 'a') (ImportDeclaration [(ImportDefaultSpecifier (BindingIdentifier 'a'))] (StringLiteral 'm')))",
+    },
+    Row {
+        clause: "14.13: no export behind a label",
+        frame: "@",
+        sound: "(LabeledStatement (LabelIdentifier 'a') (EmptyStatement)) (ExportDefaultDeclaration (Identifier 'a'))",
+        broken: "(LabeledStatement (LabelIdentifier 'a') (ExportDefaultDeclaration (Identifier 'a')))",
+    },
+    Row {
+        clause: "14.6: no import in an if",
+        frame: "@",
+        sound: "(IfStatement (Identifier 'a') (EmptyStatement) _) (ImportDeclaration [(ImportDefaultSpecifier (BindingIdentifier 'a'))] (StringLiteral 'm'))",
+        broken: "(IfStatement (Identifier 'a') (ImportDeclaration [(ImportDefaultSpecifier (BindingIdentifier 'a'))] (StringLiteral 'm')) _)",
+    },
+    Row {
+        clause: "14.6: no export in an if",
+        frame: "@",
+        sound: "(IfStatement (Identifier 'a') (EmptyStatement) _) (ExportDefaultDeclaration (Identifier 'a'))",
+        broken: "(IfStatement (Identifier 'a') (ExportDefaultDeclaration (Identifier 'a')) _)",
+    },
+];
+
+/// Rule 1: exports of this module name identifiers.
+pub static EXPORT_ROWS: [Row; 3] = [
     Row {
         clause: "16.2.3.1: an export of this module names an identifier, not a string",
         frame: "(VariableDeclaration 'var' [(VariableDeclarator (BindingIdentifier 'a') _) (VariableDeclarator (BindingIdentifier 'b') _)]) (ExportNamedDeclaration [(ExportSpecifier @ (IdentifierName 'b'))])",
