@@ -5,7 +5,8 @@ ghost use Rattle.js_syntax.specs.ModuleTree.{is_module_tree, is_module_value};
 
 use crate::view::TreePart;
 use js_tree::Node;
-use node_texts::LexicalGrammar;
+use crate::lexicon::LexicalGrammar;
+use crate::rules;
 
 /// A tree that can be asked whether it is that of a module. No question takes memory; each goes down the tree by
 /// calling itself.
@@ -25,18 +26,18 @@ impl ModuleTree for Node {
     fn is_module_tree(&self) -> bool
         ensures { result ≡ is_module_tree (term self.now) }
     {
-        js_modules::is_module_tree::<LexicalGrammar, _>(TreePart(Some(self)))
+        rules::is_module_tree::<LexicalGrammar, _>(TreePart(Some(self)))
     }
 
     fn is_module_value(&self) -> bool
         ensures { result ≡ is_module_value (term self.now) }
     {
-        js_modules::is_module_value::<LexicalGrammar, _>(TreePart(Some(self)))
+        rules::is_module_value::<LexicalGrammar, _>(TreePart(Some(self)))
     }
 
     fn is_printable(&self) -> bool
         ensures { result ≡ is_printable (term self.now) }
     {
-        js_modules::is_printable::<LexicalGrammar, _>(TreePart(Some(self)))
+        rules::is_printable::<LexicalGrammar, _>(TreePart(Some(self)))
     }
 }

@@ -1,7 +1,7 @@
 ghost use Rattle.std.specs.Prelude.{◌≡◌};
 ghost use Rattle.module_tree.specs.ViewTerm.{part_term};
 
-use crate::texts::{has_texts, is_text_set};
+use crate::node_texts::{has_texts, is_text_set};
 use js_rules::{Form, Kind, Lexicon, View};
 use js_tree::{self as tree, Node};
 

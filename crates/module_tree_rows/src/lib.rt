@@ -7,9 +7,6 @@ mod notation;
 mod rows;
 #[cfg(test)]
 mod tests;
-mod tree;
-mod view;
+mod words;
 
 pub use notation::{NotationError, read};
-pub use tree::{Node, Part, Tree};
-pub use view::PartView;

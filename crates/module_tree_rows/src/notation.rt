@@ -1,8 +1,8 @@
 //! A notation for trees: `(Kind 'text' .. part ..)` is a node, `[part ..]` a list and `_` an absent part.
 
 use crate::kinds::kind_named;
-use crate::tree::{Node, Part, Tree};
-use js_term::Kind;
+use crate::words::{flags_of, word_of};
+use js_tree::{Ident, Items, Kind, Node, Texts};
 use std::alloc::{AllocError, Global};
 use std::mem;
 use thiserror::Error;
@@ -12,6 +12,8 @@ use thiserror::Error;
 pub enum NotationError {
     #[error("no kind of node has the name at {0}")]
     UnknownKind(usize),
+    #[error("no node has such texts")]
+    UnknownTexts,
     #[error("`{0}` stands at no place of the notation")]
     Unexpected(char),
     #[error("the text is not one tree")]
@@ -32,7 +34,7 @@ struct Open<'t> {
     /// None for a list.
     kind: Option<Kind>,
     texts: Vec<&'t str>,
-    parts: Vec<usize>,
+    parts: Items<Node>,
 }
 
 /// What stands before the next character: a sign, or the beginning of a name or a text, by the sign before it.
@@ -48,13 +50,12 @@ struct Reader<'t> {
     alloc: Global,
     text: &'t str,
     mode: Mode,
-    parts: Vec<Part<'t>>,
     here: Open<'t>,
     around: Vec<Open<'t>>,
 }
 
 /// The tree that the text notes.
-pub fn read<'t>(alloc: Global, text: &'t str) -> Result<Tree<'t>, NotationError> {
+pub fn read(alloc: Global, text: &str) -> Result<Node, NotationError> {
     let mut reader = Reader::new(alloc, text);
     for (at, c) in text.char_indices() {
         reader.step(at, c)?;
@@ -67,21 +68,35 @@ impl<'t> Open<'t> {
         Open {
             kind,
             texts: Vec::new(alloc),
-            parts: Vec::new(alloc),
+            parts: Items::new(alloc),
         }
     }
 
     /// The part that ends with this bracket.
-    fn ended_by(self, bracket: char) -> Result<Part<'t>, NotationError> {
+    fn ended_by(self, alloc: Global, bracket: char) -> Result<Node, NotationError> {
         match (self.kind, bracket) {
-            (Some(kind), ')') => Ok(Part::Node(Node {
-                kind,
-                texts: self.texts,
-                parts: self.parts,
-            })),
-            (None, ']') => Ok(Part::List(self.parts)),
+            (Some(kind), ')') => {
+                let texts = texts_of(alloc, kind, self.texts.as_slice())?;
+                Ok(Node::new(kind, texts, self.parts))
+            }
+            (None, ']') => Ok(Node::list(self.parts)),
             _ => Err(NotationError::Unexpected(bracket)),
         }
+    }
+}
+
+/// The texts of a node: one text as it stands, several as words.
+fn texts_of(alloc: Global, kind: Kind, texts: &[&str]) -> Result<Texts, NotationError> {
+    match texts {
+        [] => Ok(Texts::None),
+        [text] => Ok(Texts::Text(Ident::new(alloc, text)?)),
+        [pattern, flags] if kind == Kind::RegExpLiteral => {
+            Ok(Texts::RegExp(flags_of(flags), Ident::new(alloc, pattern)?))
+        }
+        [a, b] => Ok(Texts::Two(word_of(a)?, word_of(b)?)),
+        [a, b, c] => Ok(Texts::Three(word_of(a)?, word_of(b)?, word_of(c)?)),
+        [a, b, c, d] => Ok(Texts::Four(word_of(a)?, word_of(b)?, word_of(c)?, word_of(d)?)),
+        _ => Err(NotationError::UnknownTexts),
     }
 }
 
@@ -91,7 +106,6 @@ impl<'t> Reader<'t> {
             alloc,
             text,
             mode: Mode::Between,
-            parts: Vec::new(alloc),
             here: Open::new(alloc, None),
             around: Vec::new(alloc),
         }
@@ -131,7 +145,7 @@ impl<'t> Reader<'t> {
             ' ' => {}
             '(' => self.mode = Mode::Name { from: at },
             '\'' if self.takes_text() => self.mode = Mode::Text { from: at },
-            '_' => self.add(Part::Absent)?,
+            '_' => self.here.parts.push(Node::absent(self.alloc))?,
             '[' => self.open(None)?,
             ')' | ']' => self.close(c)?,
             _ => return Err(NotationError::Unexpected(c)),
@@ -153,21 +167,15 @@ impl<'t> Reader<'t> {
     fn close(&mut self, bracket: char) -> Result<(), NotationError> {
         let outer = self.around.pop().ok_or(NotationError::Unexpected(bracket))?;
         let inner = mem::replace(&mut self.here, outer);
-        self.add(inner.ended_by(bracket)?)?;
+        self.here.parts.push(inner.ended_by(self.alloc, bracket)?)?;
         Ok(())
     }
 
-    fn add(&mut self, part: Part<'t>) -> Result<(), AllocError> {
-        self.here.parts.push(self.parts.len())?;
-        self.parts.push(part)?;
-        Ok(())
-    }
-
-    fn finish(self) -> Result<Tree<'t>, NotationError> {
-        match self.mode {
-            Mode::Between if self.around.is_empty() && self.here.parts.len() == 1 => {
-                Ok(Tree { parts: self.parts })
-            }
+    fn finish(self) -> Result<Node, NotationError> {
+        let Reader { mode, here, around, .. } = self;
+        let mut parts = here.parts;
+        match (mode, parts.pop()) {
+            (Mode::Between, Some(root)) if around.is_empty() && parts.is_empty() => Ok(root),
             _ => Err(NotationError::NotOneTree),
         }
     }

@@ -5,9 +5,7 @@ use crate::rows::{
     TARGET_ROWS, TEXT_ROWS, YIELD_ROWS,
 };
 use crate::{NotationError, read};
-use js_modules::{is_module_tree, is_printable};
-use js_rules::{Kind, View};
-use node_texts::LexicalGrammar;
+use module_tree::ModuleTree;
 use std::alloc::Global;
 use std::process::Abort;
 use std::test::Fail;
@@ -23,10 +21,9 @@ enum Verdict {
 fn judged(alloc: Global, statements: &str) -> Result<Verdict, NotationError> {
     let program = format!(in alloc; "(Program [] [{statements}])")?;
     let tree = read(alloc, program.as_str())?;
-    let view = tree.root();
-    Ok(if is_module_tree::<LexicalGrammar, _>(view) {
+    Ok(if tree.is_module_tree() {
         Verdict::ModuleTree
-    } else if is_printable::<LexicalGrammar, _>(view) {
+    } else if tree.is_printable() {
         Verdict::Printable
     } else {
         Verdict::Unprintable
@@ -200,20 +197,6 @@ fn names_of_65535_bytes(rt: HostRuntime) -> Result<(), Fail> {
             "{bytes}"
         );
     }
-    Ok(())
-}
-
-#[test]
-fn parts_of_a_tree(rt: HostRuntime) -> Result<(), Fail> {
-    let tree = read(rt.alloc(), "(IfStatement (Identifier 'a') [_ (Super)] _)")?;
-    let root = tree.root();
-    assert!(rt; root.is(Kind::IfStatement));
-    assert_eq!(rt; root.count(), 3);
-    assert_eq!(rt; root.part(0).text(), "a");
-    assert_eq!(rt; root.part(1).count(), 2);
-    assert!(rt; !root.part(1).part(0).is_present());
-    assert!(rt; root.part(1).part(1).is(Kind::Super));
-    assert!(rt; !root.part(2).is_present());
     Ok(())
 }
 

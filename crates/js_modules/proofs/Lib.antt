@@ -1,2 +1,0 @@
-pub mod JumpRule
-pub mod Joined

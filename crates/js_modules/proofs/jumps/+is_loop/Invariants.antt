@@ -1,5 +1,0 @@
-use Rattle.js_rules.specs.Seen.{size}
-use Rattle.js_modules.proofs.jumps.+is_loop.Given as goal
-
-abbrev pub decreases-is_loop : goal.decreases-is_loop
-decreases-is_loop g l = size (g.V.View.term l.statement)

@@ -1,2 +1,0 @@
-pub mod LabelsSeen
-pub mod JumpsSeen

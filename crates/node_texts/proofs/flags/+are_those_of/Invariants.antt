@@ -1,5 +1,0 @@
-use Rattle.std.proofs.Common.{length}
-use Rattle.node_texts.proofs.flags.+are_those_of.Given as goal
-
-abbrev pub decreases-are_those_of : goal.decreases-are_those_of
-decreases-are_those_of l = length l.letters.now
