@@ -3,10 +3,10 @@ ghost use Rattle.js_tree.specs.TermOf.{term};
 ghost use Rattle.js_syntax.specs.Printable.{is_printable};
 ghost use Rattle.js_syntax.specs.ModuleTree.{is_module_tree, is_module_value};
 
-use crate::view::TreePart;
-use js_tree::Node;
 use crate::lexicon::LexicalGrammar;
 use crate::rules;
+use crate::view::TreePart;
+use js_tree::Node;
 
 /// A tree that can be asked whether it is that of a module. No question takes memory; each goes down the tree by
 /// calling itself.

@@ -5,11 +5,11 @@ ghost use Rattle.js_syntax.specs.Parts.{is_set, is_set_at, text_at};
 ghost use Rattle.js_syntax.specs.Texts.{has_texts};
 ghost use Rattle.js_tree.specs.Words.{word_text, flags_word, texts_seen};
 
+use crate::by_kind;
 use crate::regexp::{are_set, are_sound};
+use js_rules::Lexicon;
 use js_term::Kind;
 use js_tree::{RegExpFlags, Texts, Word};
-use crate::by_kind;
-use js_rules::Lexicon;
 
 /// Whether it is a flag that is set, or another word.
 fn is_set(word: Word) -> bool

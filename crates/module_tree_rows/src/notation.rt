@@ -172,7 +172,12 @@ impl<'t> Reader<'t> {
     }
 
     fn finish(self) -> Result<Node, NotationError> {
-        let Reader { mode, here, around, .. } = self;
+        let Reader {
+            mode,
+            here,
+            around,
+            ..
+        } = self;
         let mut parts = here.parts;
         match (mode, parts.pop()) {
             (Mode::Between, Some(root)) if around.is_empty() && parts.is_empty() => Ok(root),

@@ -1,6 +1,7 @@
 //! Words and flags by their letters.
 
 use crate::notation::NotationError;
+use bitflags::Flags;
 use js_tree::{RegExpFlags, Word};
 
 /// The word among several texts of a node.
