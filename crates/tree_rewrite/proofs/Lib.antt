@@ -2,3 +2,4 @@ pub mod Lists
 pub mod Turning
 pub mod Seeing
 pub mod Scopes
+pub mod Stacked

@@ -7,7 +7,7 @@ use Rattle.tree_rewrite.specs.Rewritten.{chosen, rewritten, rewritten_all}
 use Rattle.tree_rewrite.specs.Run.{widened, run_with, run_all_with, put_or, run, run_all}
 use Rattle.tree_rewrite.specs.Stacks.{top_of, without_last, narrowed, pushed, before_on, after_on}
 
-without_last_of : {E : Type 0} (env : List E) (e : E) → without_last (env ++ e ∷ []) ≡ env
+pub without_last_of : {E : Type 0} (env : List E) (e : E) → without_last (env ++ e ∷ []) ≡ env
 without_last_of [] e = refl
 without_last_of (d ∷ []) e = refl
 without_last_of (d ∷ f ∷ env) e = ap (λ l. d ∷ l) (without_last_of (f ∷ env) e)

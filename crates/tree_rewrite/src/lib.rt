@@ -2,7 +2,9 @@
 #![tactic(auto)]
 
 mod rewrite;
+mod scoped;
 mod visit;
 
 pub use rewrite::{Rewrite, rewrite_tree};
+pub use scoped::{ScopedRewrite, rewrite_scoped};
 pub use visit::{Visit, visit_tree};
