@@ -3,3 +3,4 @@ pub mod Turning
 pub mod Seeing
 pub mod Scopes
 pub mod Stacked
+pub mod Still

@@ -23,3 +23,19 @@ module _ {P S : Type 0} (before : S → P → Tree → Option Tree × S) (inside
         let r = rewritten (places 0) s t in
         let q = rewritten_all (λ k. places (suc k)) r.1 ts in
         (more_trees r.0 q.0, q.1)
+
+-- what is put in a tree's place, or the tree
+abbrev pub put_or : Option Tree → Tree → Tree
+put_or None t = t
+put_or (Some u) t = u
+
+-- by rules that keep no state
+module _ {P : Type 0} (before : P → Tree → Option Tree) (inside : P → Top → ℕ → P) (after : P → Tree → Tree) where
+  abbrev mutual
+    pub replaced : P → Tree → Tree
+    replaced p (tree f xs v i ts) =
+        put_or (before p (tree f xs v i ts)) (after p (tree f xs v i (replaced_all (inside p (record { form = f; texts = xs; span = v; id = i })) ts)))
+
+    pub replaced_all : (ℕ → P) → Trees → Trees
+    replaced_all places no_trees = no_trees
+    replaced_all places (more_trees t ts) = more_trees (replaced (places 0) t) (replaced_all (λ k. places (suc k)) ts)

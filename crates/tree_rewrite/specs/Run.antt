@@ -2,7 +2,7 @@
 use Rattle.std.specs.Prelude.{ℕ, suc, List, [], ◌∷◌, ◌++◌, Option, None, Some, Bool, true, false}
 use Rattle.js_tree.specs.Parts.{Top}
 use Rattle.js_tree.specs.Tree.{Tree, Trees, tree, no_trees, more_trees}
-use Rattle.tree_rewrite.specs.Rewritten.{chosen}
+use Rattle.tree_rewrite.specs.Rewritten.{chosen, put_or}
 
 -- the environment inside a node, by whether it opens a scope, and which
 abbrev pub widened : {E : Type 0} → Bool → List E → E → List E
@@ -27,11 +27,6 @@ module _ {P S E : Type 0} (opens : P → Top → Bool) (scope : List E → S →
         let r = run_with env (places 0) s t in
         let q = run_all_with env (λ k. places (suc k)) r.1 ts in
         (more_trees r.0 q.0, q.1)
-
--- what is put in a tree's place, or the tree
-abbrev pub put_or : Option Tree → Tree → Tree
-put_or None t = t
-put_or (Some u) t = u
 
 -- by rules that keep no state
 module _ {P E : Type 0} (opens : P → Top → Bool) (scope : List E → P → Tree → E)
