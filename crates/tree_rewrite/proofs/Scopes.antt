@@ -1,11 +1,11 @@
 -- A stack of scopes in the state is an environment that is handed down.
-use Rattle.std.proofs.Common.{◌≡◌, ℕ, suc, List, [], ◌∷◌, ◌++◌, Some, None, refl, sym, ◌∙◌, ap}
+use Rattle.std.proofs.Common.{◌≡◌, ℕ, suc, List, [], ◌∷◌, ◌++◌, Some, None, refl, ◌∙◌, ap}
 use Rattle.std.specs.Prelude.{Option, Bool, true, false}
 use Rattle.js_tree.specs.Parts.{Top}
 use Rattle.js_tree.specs.Tree.{Tree, Trees, tree, no_trees, more_trees}
 use Rattle.tree_rewrite.specs.Rewritten.{chosen, rewritten, rewritten_all}
 use Rattle.tree_rewrite.specs.Run.{widened, run_with, run_all_with}
-use Rattle.tree_rewrite.specs.Stacks.{top_of, without_last, narrowed, pushed, before_on, after_on}
+use Rattle.tree_rewrite.specs.Stacks.{without_last, narrowed, pushed, before_on, after_on}
 
 pub without_last_of : {E : Type 0} (env : List E) (e : E) → without_last (env ++ e ∷ []) ≡ env
 without_last_of [] e = refl

@@ -1,9 +1,9 @@
 -- What a stack of scopes is when a scope was pushed or popped.
-use Rattle.std.proofs.Common.{◌≡◌, ℕ, refl, List, [], ◌∷◌, ◌++◌, map, Some, None, sym, ◌∙◌, ap}
-use Rattle.std.specs.Prelude.{Option, Bool, true, false, MatchOption}
+use Rattle.std.proofs.Common.{◌≡◌, ℕ, refl, List, [], ◌∷◌, ◌++◌, Some, None, sym, ◌∙◌, ap}
+use Rattle.std.specs.Prelude.{Option, Bool, MatchOption}
 use Rattle.js_tree.specs.declared.node.Node.{Node}
-use Rattle.js_tree.specs.Parts.{Top, kids, top}
-use Rattle.js_tree.specs.Tree.{Tree, trees, tree_of}
+use Rattle.js_tree.specs.Parts.{Top, top}
+use Rattle.js_tree.specs.Tree.{Tree, tree_of}
 use Rattle.js_tree.proofs.Trees.{tree_is}
 use Rattle.tree_rewrite.specs.Run.{widened, run_with}
 use Rattle.tree_rewrite.specs.Stacks.{top_of, without_last, narrowed, pushed, before_on, after_on}

@@ -21,7 +21,7 @@ module _ {P S : Type 0} (before : S → P → Tree → Option Tree × S) (inside
         let us = replaced_all put inside end places ts in
         ap (λ o. chosen o turn) (puts p (tree f xs v i ts))
         ∙ chosen_put s (put p (tree f xs v i ts)) turn (end p (tree f xs v i us))
-            (ap (λ r. after r.1 p (tree f xs v i r.0)) (replaces_all places ts) ∙ ends p (tree f xs v i us))
+        (ap (λ r. after r.1 p (tree f xs v i r.0)) (replaces_all places ts) ∙ ends p (tree f xs v i us))
 
     pub replaces_all : (places : ℕ → P) (ts : Trees) → rewritten_all before inside after places s ts ≡ (replaced_all put inside end places ts, s)
     replaces_all places no_trees = refl
@@ -44,13 +44,13 @@ module _ {P S E : Type 0} (opens : P → Top → Bool) (scope : List E → S →
         let top : Top = record { form = f; texts = xs; span = v; id = i } in
         let inner = widened (opens p top) env (scope env s p (tree f xs v i ts)) in
         let turn : S → Tree × S = λ z.
-            let l = widened (opens p top) env (scope env z p (tree f xs v i ts)) in
-            let r = run_all_with opens scope before inside after l (inside p top) z ts in
-            after l r.1 p (tree f xs v i r.0) in
+        let l = widened (opens p top) env (scope env z p (tree f xs v i ts)) in
+        let r = run_all_with opens scope before inside after l (inside p top) z ts in
+        after l r.1 p (tree f xs v i r.0) in
         let us = run_all opens scope_at put inside end inner (inside p top) ts in
         ap (λ o. chosen o turn) (puts env p (tree f xs v i ts))
         ∙ chosen_put s (put env p (tree f xs v i ts)) turn (end inner p (tree f xs v i us))
-            (ap (λ r. after inner r.1 p (tree f xs v i r.0)) (runs_all inner (inside p top) ts) ∙ ends inner p (tree f xs v i us))
+        (ap (λ r. after inner r.1 p (tree f xs v i r.0)) (runs_all inner (inside p top) ts) ∙ ends inner p (tree f xs v i us))
 
     pub runs_all : (env : List E) (places : ℕ → P) (ts : Trees) → run_all_with opens scope before inside after env places s ts ≡ (run_all opens scope_at put inside end env places ts, s)
     runs_all env places no_trees = refl

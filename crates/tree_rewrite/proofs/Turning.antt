@@ -72,6 +72,6 @@ module _ {P S : Type 0} (before : S → P → Tree → Option Tree × S) (inside
       let us = first (parts_at p b) k w (map tree_of (kids b)) in
       let done : slice_get us.0 k ≡ None = ap (λ l. slice_get l.0 k) (sym m.parts) ∙ map_none tree_of (kids c) k h in
       ap (λ n. after z p (tree_of n)) m.rest ∙ ap (after z p) (tree_is (with_kids b (kids c)) ∙ ap (λ t. tree_with t (trees (map tree_of (kids (with_kids b (kids c)))))) (top_with b (kids c))
-              ∙ ap (λ l. tree_with (top b) (trees (map tree_of l))) (kids_with b (kids c)))
-          ∙ ap (ended p (top b)) (m.parts ∙ first_end (parts_at p b) w (map tree_of (kids b)) k done)
-          ∙ sym (ap (rewritten before inside after p s) (tree_is b) ∙ rewritten_with p (top b) s w (map tree_of (kids b)) (ap (before s p) (sym (tree_is b)) ∙ e))
+      ∙ ap (λ l. tree_with (top b) (trees (map tree_of l))) (kids_with b (kids c)))
+      ∙ ap (ended p (top b)) (m.parts ∙ first_end (parts_at p b) w (map tree_of (kids b)) k done)
+      ∙ sym (ap (rewritten before inside after p s) (tree_is b) ∙ rewritten_with p (top b) s w (map tree_of (kids b)) (ap (before s p) (sym (tree_is b)) ∙ e))

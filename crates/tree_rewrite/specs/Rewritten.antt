@@ -13,8 +13,8 @@ module _ {P S : Type 0} (before : S → P → Tree → Option Tree × S) (inside
     pub rewritten : P → S → Tree → Tree × S
     rewritten p s (tree f xs v i ts) =
         chosen (before s p (tree f xs v i ts)) (λ x.
-            let r = rewritten_all (inside p (record { form = f; texts = xs; span = v; id = i })) x ts in
-            after r.1 p (tree f xs v i r.0))
+        let r = rewritten_all (inside p (record { form = f; texts = xs; span = v; id = i })) x ts in
+        after r.1 p (tree f xs v i r.0))
 
     -- each at its place, in order
     pub rewritten_all : (ℕ → P) → S → Trees → Trees × S

@@ -1,5 +1,5 @@
 -- A tree rewritten in an environment: the scopes that the nodes round a place opened, the outermost first.
-use Rattle.std.specs.Prelude.{ℕ, suc, List, [], ◌∷◌, ◌++◌, Option, None, Some, Bool, true, false}
+use Rattle.std.specs.Prelude.{ℕ, suc, List, [], ◌∷◌, ◌++◌, Option, Bool, true, false}
 use Rattle.js_tree.specs.Parts.{Top}
 use Rattle.js_tree.specs.Tree.{Tree, Trees, tree, no_trees, more_trees}
 use Rattle.tree_rewrite.specs.Rewritten.{chosen, put_or}
@@ -17,9 +17,9 @@ module _ {P S E : Type 0} (opens : P → Top → Bool) (scope : List E → S →
     run_with env p s (tree f xs v i ts) =
         let top : Top = record { form = f; texts = xs; span = v; id = i } in
         chosen (before env s p (tree f xs v i ts)) (λ z.
-            let inner = widened (opens p top) env (scope env z p (tree f xs v i ts)) in
-            let r = run_all_with inner (inside p top) z ts in
-            after inner r.1 p (tree f xs v i r.0))
+        let inner = widened (opens p top) env (scope env z p (tree f xs v i ts)) in
+        let r = run_all_with inner (inside p top) z ts in
+        after inner r.1 p (tree f xs v i r.0))
 
     pub run_all_with : List E → (ℕ → P) → S → Trees → Trees × S
     run_all_with env places s no_trees = (no_trees, s)

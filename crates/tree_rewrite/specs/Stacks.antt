@@ -1,5 +1,5 @@
 -- The rules of an environment as rules whose state holds a stack of scopes.
-use Rattle.std.specs.Prelude.{ℕ, List, [], ◌∷◌, Option, None, Some, Bool, true, false}
+use Rattle.std.specs.Prelude.{List, [], ◌∷◌, Option, None, Some, Bool, true, false}
 use Rattle.js_tree.specs.Parts.{Top}
 use Rattle.js_tree.specs.Tree.{Tree, tree}
 use Rattle.tree_rewrite.specs.Run.{widened}

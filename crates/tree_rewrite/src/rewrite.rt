@@ -3,9 +3,8 @@ ghost use Rattle.js_tree.specs.Parts.{Top, top};
 ghost use Rattle.js_tree.specs.Tree.{Tree, tree_of};
 ghost use Rattle.tree_rewrite.specs.Rewritten.{rewritten};
 
-use std::alloc::Global;
-
 use js_tree::Node;
+use std::alloc::Global;
 
 /// What becomes of each node at its place. The value itself is the state that is handed on from node to node.
 pub trait Rewrite {

@@ -5,12 +5,10 @@ ghost use Rattle.tree_rewrite.specs.Rewritten.{rewritten};
 ghost use Rattle.tree_rewrite.specs.Run.{run_with};
 ghost use Rattle.tree_rewrite.specs.Stacks.{before_on, after_on};
 
-use std::alloc::{AllocError, Global};
-
+use crate::rewrite::{Rewrite, rewrite_tree};
 use js_items::Items;
 use js_tree::Node;
-
-use crate::rewrite::{Rewrite, rewrite_tree};
+use std::alloc::{AllocError, Global};
 
 /// What becomes of each node at its place, in an environment: the scopes that the nodes round it opened, the outermost
 /// first. The value itself is a state that is handed on from node to node.
@@ -96,13 +94,18 @@ impl<R: ScopedRewrite> Rewrite for Stacked<R, R::Scope> {
         place: R::Place,
         node: &Node,
     ) -> Result<Option<Node>, R::Fault> {
-        if let Some(put) = self.rules.before(alloc, self.scopes.as_slice(), place, node)? {
+        if let Some(put) = self
+            .rules
+            .before(alloc, self.scopes.as_slice(), place, node)?
+        {
             return Ok(Some(put));
         }
         if !R::opens(place, node) {
             return Ok(None);
         }
-        let scope = self.rules.scope(alloc, self.scopes.as_slice(), place, node)?;
+        let scope = self
+            .rules
+            .scope(alloc, self.scopes.as_slice(), place, node)?;
         self.scopes.push(scope)?;
         Ok(None)
     }
@@ -111,14 +114,10 @@ impl<R: ScopedRewrite> Rewrite for Stacked<R, R::Scope> {
         R::inside(place, node, k)
     }
 
-    fn after(
-        &mut self,
-        alloc: Global,
-        place: R::Place,
-        node: &mut Node,
-    ) -> Result<(), R::Fault> {
+    fn after(&mut self, alloc: Global, place: R::Place, node: &mut Node) -> Result<(), R::Fault> {
         let opened = R::opens(place, node);
-        self.rules.after(alloc, self.scopes.as_slice(), place, node)?;
+        self.rules
+            .after(alloc, self.scopes.as_slice(), place, node)?;
         if opened {
             drop(self.scopes.pop());
         }

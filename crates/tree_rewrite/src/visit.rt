@@ -33,11 +33,7 @@ pub trait Visit {
 }
 
 /// Visits a whole tree: each node once, in text order, a node before its parts.
-pub fn visit_tree<V: Visit>(
-    rules: &mut V,
-    place: V::Place,
-    node: &Node,
-) -> Result<(), V::Fault>
+pub fn visit_tree<V: Visit>(rules: &mut V, place: V::Place, node: &Node) -> Result<(), V::Fault>
     ensures { OnOk result (rules.new ≡ visited V.enter V.inside V.leave place rules.old (tree_of node.now)) }
 {
     if let Err(fault) = rules.enter(place, node) {

@@ -1,5 +1,5 @@
 -- What the visits leave behind.
-use Rattle.std.proofs.Common.{◌≡◌, ℕ, suc, ◌+◌, ◌-◌, List, [], ◌∷◌, ◌++◌, Some, None, refl, sym, ◌∙◌, ap, arith, append_assoc, append-nil, ◌≤◌}
+use Rattle.std.proofs.Common.{◌≡◌, ℕ, suc, ◌+◌, ◌-◌, ◌++◌, sym, ◌∙◌, ap, arith, append_assoc, append-nil, ◌≤◌}
 use Rattle.std.specs.Prelude.{max}
 use Rattle.js_tree.specs.Parts.{Top}
 use Rattle.js_tree.specs.Tree.{Tree, Trees, tree, no_trees, more_trees}

@@ -4,7 +4,7 @@ use Rattle.std.specs.Prelude.{Option, slice_get}
 use Rattle.js_term.specs.Term.{Text}
 use Rattle.js_tree.specs.declared.node.Node.{Node}
 use Rattle.js_tree.specs.Parts.{kids, top}
-use Rattle.js_tree.specs.Tree.{Tree, tree, trees, tree_of}
+use Rattle.js_tree.specs.Tree.{tree, trees, tree_of}
 use Rattle.js_tree.proofs.Trees.{tree_is}
 use Rattle.tree_rewrite_tests.specs.Names.{identifier_by, binding_by, name_at, bound_at, listed}
 use Rattle.tree_rewrite_tests.specs.Hiding.{own_names}

@@ -1,9 +1,8 @@
 -- Names read from their module, where a function's own name hides an import inside it.
-use Rattle.std.specs.Prelude.{ℕ, List, [], ◌∷◌, Option, None, Some, Bool, true, false, ◌||◌, if◌then◌else◌}
+use Rattle.std.specs.Prelude.{List, [], ◌∷◌, Option, None, Some, Bool, true, false, ◌||◌, if◌then◌else◌}
 use Rattle.js_term.specs.Term.{Text}
 use Rattle.js_term.specs.declared.kind.Kind.TheVariants as Kind
-use Rattle.js_tree.specs.Parts.{Top}
-use Rattle.js_tree.specs.Tree.{Tree, Trees, tree, no_trees, more_trees}
+use Rattle.js_tree.specs.Tree.{Tree, tree, no_trees, more_trees}
 use Rattle.js_tree.specs.declared.node.Form.{Form}
 use Rattle.js_tree.specs.declared.node.Form.TheVariants as form
 use Rattle.tree_rewrite.specs.Run.{run}

@@ -1,8 +1,7 @@
 -- Trees that stand in no text, and the names that trees have.
-use Rattle.std.specs.Prelude.{ℕ, List, [], ◌∷◌, Option, None, Some, Bool, true, false, ◌||◌}
+use Rattle.std.specs.Prelude.{List, [], ◌∷◌, Option, None, Some, Bool, false, ◌||◌}
 use Rattle.js_term.specs.Term.{Text, is_text}
 use Rattle.js_term.specs.declared.kind.Kind.{Kind}
-use Rattle.js_term.specs.declared.kind.Kind.TheVariants as Kind
 use Rattle.js_tree.specs.Tree.{Tree, tree, trees}
 use Rattle.js_tree.specs.declared.node.Form.{Form}
 use Rattle.js_tree.specs.declared.node.Form.TheVariants as form

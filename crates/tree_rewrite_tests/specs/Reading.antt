@@ -9,7 +9,6 @@ use Rattle.js_tree.specs.declared.node.Form.TheVariants as form
 use Rattle.tree_rewrite.specs.Rewritten.{replaced}
 use Rattle.tree_rewrite_tests.specs.Names.{made, items, name_at, has}
 use Rattle.tree_rewrite_tests.specs.declared.reading.Standing.{Standing}
-use Rattle.tree_rewrite_tests.specs.declared.reading.Standing.TheVariants as Standing
 
 -- i.x
 abbrev pub member : Text → Text → Tree

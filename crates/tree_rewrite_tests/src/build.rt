@@ -6,12 +6,11 @@ ghost use Rattle.js_tree.specs.Tree.{tree_of};
 ghost use Rattle.js_tree.specs.Words.{texts_seen};
 ghost use Rattle.tree_rewrite_tests.specs.Names.{made, items, only, name_at, bound_at, has};
 
-use std::alloc::{AllocError, Global};
-
 use js_ident::Ident;
 use js_items::Items;
 use js_term::Kind;
 use js_tree::{Form, Node, Span, Texts};
+use std::alloc::{AllocError, Global};
 
 /// A node that stands in no text.
 #[tactic(auto, using(js_tree::proofs::Trees::tree_roll))]

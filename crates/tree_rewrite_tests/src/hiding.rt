@@ -8,16 +8,14 @@ ghost use Rattle.tree_rewrite_tests.specs.Reading.{inside, read_name};
 ghost use Rattle.tree_rewrite_tests.specs.Hiding.{is_function, own_names, is_hidden, seen_name, read_seen, read_in};
 ghost use Rattle.tree_rewrite_tests.specs.declared.reading.Standing.TheVariants as S;
 
-use std::alloc::{AllocError, Global};
-
+use crate::build::{binding_name, identifier_name, is_listed};
+use crate::reading::{Import, Standing, part_standing};
 use js_ident::Ident;
 use js_items::Items;
 use js_term::Kind;
 use js_tree::{Form, Node};
+use std::alloc::{AllocError, Global};
 use tree_rewrite::{ScopedRewrite, rewrite_scoped};
-
-use crate::build::{binding_name, identifier_name, is_listed};
-use crate::reading::{Import, Standing, part_standing};
 
 fn is_hidden(scopes: &[Items<Ident>], name: &str) -> bool
     ensures { result ≡ is_hidden scopes.now name.now }

@@ -5,14 +5,12 @@ ghost use Rattle.js_tree.specs.Tree.{tree_of};
 ghost use Rattle.tree_rewrite_tests.specs.Names.{name_at, listed};
 ghost use Rattle.tree_rewrite_tests.specs.Collecting.{identifiers};
 
-use std::alloc::AllocError;
-
+use crate::build::identifier_name;
 use js_ident::Ident;
 use js_items::Items;
 use js_tree::Node;
+use std::alloc::AllocError;
 use tree_rewrite::{Visit, visit_tree};
-
-use crate::build::identifier_name;
 
 #[derive(Drop)]
 pub struct Identifiers {

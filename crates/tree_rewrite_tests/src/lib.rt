@@ -6,7 +6,6 @@ mod hiding;
 mod identifiers;
 mod nesting;
 mod reading;
-
 #[cfg(test)]
 mod tests;
 

@@ -6,15 +6,13 @@ ghost use Rattle.tree_rewrite_tests.specs.Names.{name_at};
 ghost use Rattle.tree_rewrite_tests.specs.Reading.{member, detached, read_from, part_standing, inside, read_name, read};
 ghost use Rattle.tree_rewrite_tests.specs.declared.reading.Standing.TheVariants as S;
 
-use std::alloc::{AllocError, Global};
-
+use crate::build::{identifier_name, is_listed, leaf, list, make, one, two};
 use js_ident::Ident;
 use js_items::Items;
 use js_term::Kind;
 use js_tree::{Form, Node, Texts, Word};
+use std::alloc::{AllocError, Global};
 use tree_rewrite::{Rewrite, rewrite_tree};
-
-use crate::build::{identifier_name, is_listed, leaf, list, make, one, two};
 
 /// Where an expression stands.
 #[derive(Clone, Copy)]
@@ -38,11 +36,7 @@ fn member(alloc: Global, source: &str, name: &str) -> Result<Node, AllocError>
     let object = leaf(alloc, Kind::Identifier, source)?;
     let property = leaf(alloc, Kind::IdentifierName, name)?;
     let kids = two(alloc, object, property)?;
-    Ok(make(
-        Kind::StaticMemberExpression,
-        Texts::One(Word::Unset),
-        kids,
-    ))
+    Ok(make(Kind::StaticMemberExpression, Texts::One(Word::Unset), kids))
 }
 
 /// `(0, part)`

@@ -1,17 +1,15 @@
 //! `x(x, y)` and `(function x() { x(x, y) })(x)`, read with `x` imported from `m`.
 
-use std::alloc::{AllocError, Global};
-
-use js_ident::Ident;
-use js_items::Items;
-use js_term::Kind;
-use js_tree::{Form, Node, Texts, Word};
-
 use crate::build::{leaf, list, make, one, two};
 use crate::hiding::read_visible;
 use crate::identifiers::{Identifiers, collect_identifiers};
 use crate::nesting::{TooDeep, measure_nesting};
 use crate::reading::{Import, read_all};
+use js_ident::Ident;
+use js_items::Items;
+use js_term::Kind;
+use js_tree::{Form, Node, Texts, Word};
+use std::alloc::{AllocError, Global};
 
 fn import(alloc: Global) -> Result<Import, AllocError> {
     let mut names = Items::new(alloc);

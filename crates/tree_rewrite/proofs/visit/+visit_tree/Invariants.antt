@@ -1,6 +1,5 @@
-use Rattle.std.proofs.Common.{◌≡◌, ℕ, length}
+use Rattle.std.proofs.Common.{◌≡◌}
 use Rattle.js_tree.specs.declared.node.Node.{size-Node}
-use Rattle.js_tree.specs.Parts.{kids}
 use Rattle.tree_rewrite.proofs.Seeing.{behind_parts}
 use Rattle.tree_rewrite.proofs.visit.+visit_tree.Given as goal
 

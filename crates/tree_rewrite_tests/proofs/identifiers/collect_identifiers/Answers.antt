@@ -1,4 +1,4 @@
-use Rattle.std.proofs.Common.{◌≡◌, ◌∙◌, ap}
+use Rattle.std.proofs.Common.{◌∙◌, ap}
 use Rattle.js_tree.specs.Tree.{tree_of}
 use Rattle.tree_rewrite.proofs.Turning.{on_ok}
 use Rattle.tree_rewrite_tests.proofs.Collecting.{collected}
