@@ -1,0 +1,4 @@
+pub mod Rewritten
+pub mod Visited
+pub mod Run
+pub mod Stacks
