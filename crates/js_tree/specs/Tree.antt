@@ -1,11 +1,13 @@
 -- A tree as plain data: as its term, with spans and ids.
-use Rattle.std.specs.Prelude.{ℕ, List, [], ◌∷◌, Option}
+use Rattle.std.specs.Prelude.{ℕ, List, [], ◌∷◌, Option, None}
 use Rattle.js_term.specs.Term.{Text, Term, Terms, none, more}
+use Rattle.js_term.specs.declared.kind.Kind.{Kind}
 use Rattle.js_tree.specs.Words.{texts_seen}
 use Rattle.js_tree.specs.Parts.{Top}
 use Rattle.js_tree.specs.TermOf.{by_form}
 use Rattle.js_tree.specs.declared.span.Span.{Span}
 use Rattle.js_tree.specs.declared.node.Form.{Form}
+use Rattle.js_tree.specs.declared.node.Form.TheVariants as form
 use Rattle.js_tree.specs.declared.node.Node.{Node, Node-F, fold-Node}
 
 mutual
@@ -25,6 +27,13 @@ level_tree n = tree n.form (texts_seen n.texts) n.span n.id (trees n.kids)
 
 unfoldable pub tree_of : Node → Tree
 tree_of = fold-Node Tree level_tree
+
+-- a node and a list that stand in no text and have no id
+abbrev pub made : Kind → List Text → List Tree → Tree
+made k xs ts = tree (form.Node k) xs (record { start = 0; end = 0 }) None (trees ts)
+
+abbrev pub listed : List Tree → Tree
+listed ts = tree form.List [] (record { start = 0; end = 0 }) None (trees ts)
 
 -- what stands on a top
 abbrev pub tree_with : Top → Trees → Tree

@@ -5,6 +5,7 @@ ghost use Rattle.js_term.specs.Term.{all, list, more, node, none, one, two};
 ghost use Rattle.js_tree.specs.Words.{texts_seen};
 ghost use Rattle.js_tree.specs.Parts.{kids as kids_of};
 ghost use Rattle.js_tree.specs.TermOf.{term};
+ghost use Rattle.js_tree.specs.Tree.{listed, made, tree_of};
 
 use crate::node::{Form, Node};
 use crate::span::Span;
@@ -15,9 +16,10 @@ use std::alloc::{AllocError, Global};
 
 impl Node {
     /// A node of a kind, that stands in no text and has no id.
-    #[tactic(auto, using(crate::proofs::TermOf::term_roll), unfolding(crate::specs::Parts::kids))]
+    #[tactic(auto, using(crate::proofs::TermOf::term_roll, crate::proofs::Trees::tree_roll), unfolding(crate::specs::Parts::kids))]
     pub fn new(kind: Kind, texts: Texts, kids: Items<Node>) -> Node
         ensures seen { term result ≡ node kind (texts_seen texts) (all (map term kids)) }
+        ensures tree { tree_of result ≡ made kind (texts_seen texts) (map tree_of kids) }
         ensures held { kids_of result ≡ kids }
     {
         Node {
@@ -31,21 +33,24 @@ impl Node {
 
     /// A node without parts. It takes no memory.
     pub fn leaf(alloc: Global, kind: Kind, texts: Texts) -> Node
-        ensures { term result ≡ node kind (texts_seen texts) none }
+        ensures seen { term result ≡ node kind (texts_seen texts) none }
+        ensures tree { tree_of result ≡ made kind (texts_seen texts) [] }
     {
         Node::new(kind, texts, Items::new(alloc))
     }
 
     /// A list without items. It takes no memory.
     pub fn empty_list(alloc: Global) -> Node
-        ensures { term result ≡ list none }
+        ensures seen { term result ≡ list none }
+        ensures tree { tree_of result ≡ listed [] }
     {
         Node::list(Items::new(alloc))
     }
 
     /// A node with one part.
     pub fn of_one(alloc: Global, kind: Kind, texts: Texts, part: Node) -> Result<Node, AllocError>
-        ensures { IfOk result (λ it. term it ≡ node kind (texts_seen texts) (one (term part))) }
+        ensures seen { IfOk result (λ it. term it ≡ node kind (texts_seen texts) (one (term part))) }
+        ensures tree { IfOk result (λ it. tree_of it ≡ made kind (texts_seen texts) (tree_of part ∷ [])) }
     {
         let kids = items_of_one(alloc, part)?;
         Ok(Node::new(kind, texts, kids))
@@ -58,7 +63,8 @@ impl Node {
         texts: Texts,
         items: Items<Node>,
     ) -> Result<Node, AllocError>
-        ensures { IfOk result (λ it. term it ≡ node kind (texts_seen texts) (one (list (all (map term items))))) }
+        ensures seen { IfOk result (λ it. term it ≡ node kind (texts_seen texts) (one (list (all (map term items))))) }
+        ensures tree { IfOk result (λ it. tree_of it ≡ made kind (texts_seen texts) (listed (map tree_of items) ∷ [])) }
     {
         Node::of_one(alloc, kind, texts, Node::list(items))
     }
@@ -71,7 +77,8 @@ impl Node {
         first: Node,
         second: Node,
     ) -> Result<Node, AllocError>
-        ensures { IfOk result (λ it. term it ≡ node kind (texts_seen texts) (two (term first) (term second))) }
+        ensures seen { IfOk result (λ it. term it ≡ node kind (texts_seen texts) (two (term first) (term second))) }
+        ensures tree { IfOk result (λ it. tree_of it ≡ made kind (texts_seen texts) (tree_of first ∷ tree_of second ∷ [])) }
     {
         let kids = items_of_two(alloc, first, second)?;
         Ok(Node::new(kind, texts, kids))
@@ -86,7 +93,8 @@ impl Node {
         second: Node,
         third: Node,
     ) -> Result<Node, AllocError>
-        ensures { IfOk result (λ it. term it ≡ node kind (texts_seen texts) (more (term first) (two (term second) (term third)))) }
+        ensures seen { IfOk result (λ it. term it ≡ node kind (texts_seen texts) (more (term first) (two (term second) (term third)))) }
+        ensures tree { IfOk result (λ it. tree_of it ≡ made kind (texts_seen texts) (tree_of first ∷ tree_of second ∷ tree_of third ∷ [])) }
     {
         let kids = items_of_three(alloc, first, second, third)?;
         Ok(Node::new(kind, texts, kids))

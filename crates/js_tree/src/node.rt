@@ -2,6 +2,7 @@ ghost use Rattle.std.specs.Prelude.{◌≡◌, [], map};
 ghost use Rattle.js_term.specs.Term.{all, list};
 ghost use Rattle.js_tree.specs.Parts.{hole, kids as kids_of};
 ghost use Rattle.js_tree.specs.TermOf.{term};
+ghost use Rattle.js_tree.specs.Tree.{listed, tree_of};
 
 use crate::free::free;
 use crate::span::Span;
@@ -50,9 +51,10 @@ impl Node {
     }
 
     /// A list of these.
-    #[tactic(auto, using(crate::proofs::TermOf::term_roll), unfolding(crate::specs::Parts::kids))]
+    #[tactic(auto, using(crate::proofs::TermOf::term_roll, crate::proofs::Trees::tree_roll), unfolding(crate::specs::Parts::kids))]
     pub fn list(kids: Items<Node>) -> Node
         ensures seen { term result ≡ list (all (map term kids)) }
+        ensures tree { tree_of result ≡ listed (map tree_of kids) }
         ensures held { kids_of result ≡ kids }
     {
         Node {

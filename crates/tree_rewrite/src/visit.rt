@@ -39,7 +39,7 @@ pub fn visit_tree<V: Visit>(rules: &mut V, place: V::Place, node: &Node) -> Resu
     if let Err(fault) = rules.enter(place, node) {
         return Err(fault);
     }
-    let parts = node.kids.as_slice();
+    let parts = node.kids();
     let count = parts.len();
     for k in 0..count {
         let inner = V::inside(place, node, k);

@@ -81,7 +81,7 @@ fn expect_equal(
 #[test]
 fn a_tree_of_each_kind_is_copied(rt: HostRuntime) -> Result<(), Fail> {
     let alloc = rt.alloc();
-    for (turn, kind) in KINDS.iter().enumerate() {
+    for (turn, (_, kind)) in KINDS.iter().enumerate() {
         let tree = tree(alloc, *kind, turn)?;
         let copy = tree.try_clone(alloc)?;
         assert!(rt; copy.is(*kind), "another kind");

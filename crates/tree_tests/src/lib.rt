@@ -1,11 +1,30 @@
-//! Tests of whole trees, apart from the crates that they call, so that those are proved once.
+//! Tests of whole trees, apart from the crates that they call, so that those are proved once; with small passes as their
+//! users would write them, and a notation for trees.
 #![tactic(auto)]
 
+mod build;
 #[cfg(test)]
 mod copies;
 #[cfg(test)]
 mod drops;
-#[cfg(test)]
+mod hiding;
+mod identifiers;
 mod kinds;
 #[cfg(test)]
 mod names;
+mod nesting;
+mod notation;
+#[cfg(test)]
+mod passes;
+mod reading;
+#[cfg(test)]
+mod rows;
+#[cfg(test)]
+mod rules;
+mod words;
+
+pub use hiding::read_visible;
+pub use identifiers::{Identifiers, collect_identifiers};
+pub use nesting::{Nesting, TooDeep, measure_nesting};
+pub use notation::{NotationError, read};
+pub use reading::{Import, Standing, read_all};

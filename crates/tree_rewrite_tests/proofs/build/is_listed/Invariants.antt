@@ -1,6 +1,0 @@
-use Rattle.std.proofs.Common.{◌≡◌, drop}
-use Rattle.tree_rewrite_tests.specs.Names.{has}
-use Rattle.tree_rewrite_tests.proofs.build.is_listed.Given as goal
-
-abbrev pub invariant-loop-one : goal.invariant-loop-one
-invariant-loop-one l = has l.names l.name ≡ has (drop l.one-index l.names) l.name
