@@ -66,3 +66,7 @@ with_same_kid n p k h = ap (with_kids n) (same (kids n) k p h) ∙ with_same n
 pub kid_is_smaller : (n : Node) (k : ℕ) (x : Node) → slice_get (kids n) k ≡ Some x → size-Node x < size-Node n
 unfolding kids
 kid_is_smaller n k x h = let d : size-Node x ≤ most size-Node (out-Node n).kids = in_list (out-Node n).kids k x h in omega (arith, size_is-Node n)
+
+pub kids_are_smaller : (n : Node) → most size-Node (kids n) < size-Node n
+unfolding kids
+kids_are_smaller n = omega (arith, size_is-Node n)

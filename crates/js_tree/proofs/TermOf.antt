@@ -1,6 +1,7 @@
 -- The term of a node by its level.
-use Rattle.std.proofs.Common.{◌≡◌, refl, List, [], None, map}
-use Rattle.js_term.specs.Term.{Text, Term, absent, Terms, all}
+use Rattle.std.proofs.Common.{◌≡◌, refl, ap, ◌∙◌, List, [], None, map}
+use Rattle.js_term.specs.Term.{Text, Term, absent, list, node, Terms, all}
+use Rattle.js_term.specs.declared.kind.Kind.{Kind}
 use Rattle.js_tree.specs.Words.{texts_seen}
 use Rattle.js_tree.specs.Parts.{Level, hole, kids, top}
 use Rattle.js_tree.specs.TermOf.{by_form, level_term, term, retexted}
@@ -21,6 +22,13 @@ pub retexted_form : (f : Form) (xs ys : List Text) (ts : Terms) → retexted ys 
 retexted_form form.Absent xs ys ts = refl
 retexted_form form.List xs ys ts = refl
 retexted_form (form.Node k) xs ys ts = refl
+
+-- a node by its kind, and a list by its items
+pub term_of_node : (n : Node) (k : Kind) → (top n).form ≡ form.Node k → term n ≡ node k (top n).texts (all (map term (kids n)))
+term_of_node n k e = term_is n ∙ ap (λ (f : Form). by_form f (top n).texts (all (map term (kids n)))) e
+
+pub term_of_list : (n : Node) → (top n).form ≡ form.List → term n ≡ list (all (map term (kids n)))
+term_of_list n e = term_is n ∙ ap (λ (f : Form). by_form f (top n).texts (all (map term (kids n)))) e
 
 pub term_hole : term hole ≡ absent
 unfolding hole term

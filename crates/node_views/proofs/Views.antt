@@ -1,13 +1,12 @@
 -- The term of a node that has so many parts, by its parts.
-use Rattle.std.proofs.Common.{◌≡◌, refl, ap, ◌∙◌, ℕ, zero, suc, ◌<◌, length, List, [], ◌∷◌, map, get_or, arith}
-use Rattle.js_term.specs.Term.{node, Terms, none, more, one, two, list, all}
+use Rattle.std.proofs.Common.{◌≡◌, refl, ap, ◌∙◌, length, List, [], ◌∷◌, map, get_or, arith}
+use Rattle.js_term.specs.Term.{node, Terms, more, one, two, all}
 use Rattle.js_term.specs.declared.kind.Kind.{Kind}
-use Rattle.js_tree.specs.declared.node.Form.{Form}
 use Rattle.js_tree.specs.declared.node.Form.TheVariants as form
 use Rattle.js_tree.specs.declared.node.Node.{Node}
 use Rattle.js_tree.specs.Parts.{hole, kids, top}
-use Rattle.js_tree.specs.TermOf.{by_form, term}
-use Rattle.js_tree.proofs.TermOf.{term_is}
+use Rattle.js_tree.specs.TermOf.{term}
+use Rattle.js_tree.proofs.TermOf.{term_of_node}
 use Rattle.node_views.specs.Views.{IsOf, part_at}
 
 parts_of_one : (xs : List Node) → length xs ≡ 1 → all (map term xs) ≡ one (term (get_or xs 0 hole))
@@ -29,10 +28,7 @@ parts_of_three (x ∷ y ∷ z ∷ []) e = refl
 parts_of_three (x ∷ y ∷ z ∷ w ∷ xs) e = absurd (omega arith)
 
 by_kind : (n : Node) (k : Kind) (ts : Terms) → (top n).form ≡ form.Node k → all (map term (kids n)) ≡ ts → term n ≡ node k (top n).texts ts
-by_kind n k ts e d =
-    term_is n
-    ∙ ap (λ (f : Form). by_form f (top n).texts (all (map term (kids n)))) e
-    ∙ ap (λ (us : Terms). node k (top n).texts us) d
+by_kind n k ts e d = term_of_node n k e ∙ ap (λ (us : Terms). node k (top n).texts us) d
 
 pub term_of_one : (k : Kind) (n : Node) → IsOf k 1 n → term n ≡ node k (top n).texts (one (term (part_at 0 n)))
 term_of_one k n h = by_kind n k _ h.of_kind (parts_of_one (kids n) h.of_count)
@@ -42,7 +38,3 @@ term_of_two k n h = by_kind n k _ h.of_kind (parts_of_two (kids n) h.of_count)
 
 pub term_of_three : (k : Kind) (n : Node) → IsOf k 3 n → term n ≡ node k (top n).texts (more (term (part_at 0 n)) (two (term (part_at 1 n)) (term (part_at 2 n))))
 term_of_three k n h = by_kind n k _ h.of_kind (parts_of_three (kids n) h.of_count)
-
--- a list by its items
-pub term_of_list : (n : Node) → (top n).form ≡ form.List → term n ≡ list (all (map term (kids n)))
-term_of_list n e = term_is n ∙ ap (λ (f : Form). by_form f (top n).texts (all (map term (kids n)))) e
