@@ -1,10 +1,10 @@
+use crate::notation::{NotationError, read};
 use crate::rows::{
     ACCESSOR_ROWS, ARGUMENTS_ROWS, AWAIT_ROWS, BINDING_ROWS, CLAUSE_ROWS, EXPORT_ROWS,
     FUNCTION_JUMP_ROWS, HERITAGE_ROWS, INITIALIZER_ROWS, ITEM_ROWS, JUMP_ROWS, LABEL_ROWS,
     PLACE_ROWS, PRIVATE_ROWS, RETURN_ROWS, Row, STATEMENT_ROWS, SUPER_CALL_ROWS, SUPER_ROWS,
     TARGET_ROWS, TEXT_ROWS, YIELD_ROWS,
 };
-use crate::notation::{NotationError, read};
 use module_tree::ModuleTree;
 use std::alloc::Global;
 use std::process::Abort;
