@@ -1,6 +1,9 @@
 -- The bound identifiers of a pattern, a declaration or a list of parameters, in text order (BoundNames, ECMAScript,
 -- sections 8.2.1 and 16.2.2).
-use Rattle.std.specs.Prelude.{ℕ, zero, suc, List, [], ◌∷◌, map}
+use denote.Ref.{Bor}
+use denote.Param.Members.{Mut}
+use Rattle.std.specs.Fn.{CalledAt}
+use Rattle.std.specs.Prelude.{◌≡◌, ⊤, ℕ, zero, suc, List, [], ◌∷◌, map}
 use Rattle.std.specs.List.{flat_map}
 use Rattle.js_term.specs.declared.kind.Kind.{Kind}
 use Rattle.js_tree.specs.declared.binding.Binding.{Binding}
@@ -64,3 +67,8 @@ names = para-Node Names level_names
 
 abbrev pub all_names : List Node → Names
 all_names ns = flat_map names ns
+
+-- f may be called at references to each of these in turn
+abbrev pub CallableAtEach : {F A : Type 0} → Mut F (Bor A × Unit {0}) (Unit {0}) → F → List A → Type 0
+CallableAtEach g f [] = ⊤
+CallableAtEach {F} {A} g f (x ∷ xs) = ((p : Bor A) → p.now ≡ x → g.pre f (p, tt)) × ((f' : F) → CalledAt g f x tt f' → CallableAtEach g f' xs)

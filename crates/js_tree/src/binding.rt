@@ -3,7 +3,7 @@
 ghost use Rattle.std.specs.Fn.{CalledAt};
 ghost use Rattle.std.specs.List.{FoldsTo};
 ghost use Rattle.std.specs.Prelude.{◌≡◌};
-ghost use Rattle.js_tree.specs.BoundNames.{all_names, binding_at, binding_of, names};
+ghost use Rattle.js_tree.specs.BoundNames.{CallableAtEach, all_names, binding_at, binding_of, names};
 ghost use Rattle.js_tree.specs.Parts.{top};
 
 use crate::node::{Form, Node};
@@ -58,9 +58,8 @@ impl Node {
     /// Calls `f` on each identifier that is bound here, in text order.
     #[cycle(names)]
     pub fn bound_names<F: FnMut(&Node)>(&self, f: &mut F)
-        requires { F.IsAlwaysCallable f.old }
-        ensures called { FoldsTo (λ p n q. CalledAt F.FnMut p n tt q) f.old (names self.now) f.new }
-        ensures callable { F.IsAlwaysCallable f.new }
+        requires { CallableAtEach F.FnMut f.old (names self.now) }
+        ensures { FoldsTo (λ p n q. CalledAt F.FnMut p n tt q) f.old (names self.now) f.new }
     {
         match binding_at(self.form()) {
             Binding::Name => f(self),
@@ -77,9 +76,8 @@ impl Node {
 
 #[cycle(names)]
 fn each_name<F: FnMut(&Node)>(parts: &[Node], f: &mut F)
-    requires { F.IsAlwaysCallable f.old }
-    ensures called { FoldsTo (λ p n q. CalledAt F.FnMut p n tt q) f.old (all_names parts.now) f.new }
-    ensures callable { F.IsAlwaysCallable f.new }
+    requires { CallableAtEach F.FnMut f.old (all_names parts.now) }
+    ensures { FoldsTo (λ p n q. CalledAt F.FnMut p n tt q) f.old (all_names parts.now) f.new }
 {
     for part in parts {
         part.bound_names(f);
