@@ -81,6 +81,11 @@ module _ {F A : Type 0} (g : Mut F (Bor A × Unit {0}) (Unit {0})) where
   callable_always [] f h = tt
   callable_always (x ∷ xs) f h = (λ p e. (h.at ((p, tt) ∷ [])).0, λ e s. callable_always xs e (mut_next g f (s.shown, tt) tt e e s.called refl h))
 
+  -- what no call is refused can be called at each of these
+  pub callable_anywhere : ((f : F) (a : Bor A × Unit {0}) → g.pre f a) → (xs : List A) (f : F) → CallableAtEach g f xs
+  callable_anywhere h [] f = tt
+  callable_anywhere h (x ∷ xs) f = (λ p e. h f (p, tt), λ e s. callable_anywhere h xs e)
+
   opened : {X : Type 0} (f : X → List A) (xs : List X) (i : ℕ) (x : X) → i < length xs → x ≡ get_or xs i x → flat_map f (drop i xs) ≡ f x ++ flat_map f (drop (i + 1) xs)
   opened f xs i x lt e = ap (flat_map f) (drop-cons xs i x lt) ∙ ap (λ y. f y ++ flat_map f (drop (suc i) xs)) (sym e) ∙ ap (λ k. f x ++ flat_map f (drop k xs)) (sym (add-one i))
 

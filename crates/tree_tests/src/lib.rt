@@ -2,6 +2,9 @@
 //! users would write them, and a notation for trees.
 #![tactic(auto)]
 
+#[cfg(test)]
+mod bound_names;
+mod bound_text;
 mod build;
 #[cfg(test)]
 mod copies;
@@ -10,8 +13,6 @@ mod drops;
 mod hiding;
 mod identifiers;
 mod kinds;
-#[cfg(test)]
-mod names;
 mod nesting;
 mod notation;
 #[cfg(test)]
@@ -23,6 +24,7 @@ mod rows;
 mod rules;
 mod words;
 
+pub use bound_text::joined_names;
 pub use hiding::read_visible;
 pub use identifiers::{Identifiers, collect_identifiers};
 pub use nesting::{Nesting, TooDeep, measure_nesting};

@@ -1,3 +1,4 @@
+use crate::bound_text::joined_names;
 use js_tree::{FunctionFlags, Ident, Items, Kind, Node, Texts, VariableDeclarationKind, Word};
 use std::alloc::{AllocError, Global};
 use std::process::Abort;
@@ -52,29 +53,13 @@ fn object_pattern(alloc: Global) -> Result<Node, AllocError> {
     )
 }
 
-/// The names that the node binds, each behind a space.
-fn names(alloc: Global, node: &Node) -> Result<String, AllocError> {
-    let mut names = String::new(alloc);
-    let mut pushed: Result<(), AllocError> = Ok(());
-    node.bound_names(&mut |name: &Node| {
-        if pushed.is_ok() {
-            pushed = names.push(' ');
-        }
-        if pushed.is_ok() {
-            pushed = names.push_str(name.text());
-        }
-    });
-    pushed?;
-    Ok(names)
-}
-
 fn expect_names(
     rt: &impl Abort,
     alloc: Global,
     node: &Node,
     wanted: &str,
 ) -> Result<(), AllocError> {
-    let names = names(alloc, node)?;
+    let names = joined_names(alloc, node)?;
     assert_eq!(rt; names.as_str(), wanted);
     Ok(())
 }
