@@ -4,6 +4,7 @@ ghost use Rattle.std.specs.Prelude.{◌≡◌, ◌∷◌, [], IfOk, codes, map};
 ghost use Rattle.js_term.specs.Term.{all, flag, list, more, node, two};
 ghost use Rattle.js_term.specs.declared.kind.Kind.TheVariants as Kind;
 ghost use Rattle.js_tree.specs.TermOf.{term};
+ghost use Rattle.js_tree.specs.Tree.{listed, made, tree_of};
 
 use crate::node::Node;
 use crate::texts::Texts;
@@ -29,7 +30,8 @@ impl Node {
         params: Node,
         body: Node,
     ) -> Result<Node, AllocError>
-        ensures { IfOk result (λ it. term it ≡ node Kind.FunctionDeclaration (flag flags.is_async (codes "async") ∷ flag flags.is_generator (codes "*") ∷ []) (more (term id) (two (term params) (term body)))) }
+        ensures seen { IfOk result (λ it. term it ≡ node Kind.FunctionDeclaration (flag flags.is_async (codes "async") ∷ flag flags.is_generator (codes "*") ∷ []) (more (term id) (two (term params) (term body)))) }
+        ensures tree { IfOk result (λ it. tree_of it ≡ made Kind.FunctionDeclaration (flag flags.is_async (codes "async") ∷ flag flags.is_generator (codes "*") ∷ []) (tree_of id ∷ tree_of params ∷ tree_of body ∷ [])) }
     {
         let texts = Texts::Two(
             Word::Async.when(flags.is_async),
@@ -47,7 +49,8 @@ impl Node {
         params: Node,
         body: Node,
     ) -> Result<Node, AllocError>
-        ensures { IfOk result (λ it. term it ≡ node Kind.FunctionExpression (flag flags.is_async (codes "async") ∷ flag flags.is_generator (codes "*") ∷ []) (more (term id) (two (term params) (term body)))) }
+        ensures seen { IfOk result (λ it. term it ≡ node Kind.FunctionExpression (flag flags.is_async (codes "async") ∷ flag flags.is_generator (codes "*") ∷ []) (more (term id) (two (term params) (term body)))) }
+        ensures tree { IfOk result (λ it. tree_of it ≡ made Kind.FunctionExpression (flag flags.is_async (codes "async") ∷ flag flags.is_generator (codes "*") ∷ []) (tree_of id ∷ tree_of params ∷ tree_of body ∷ [])) }
     {
         let texts = Texts::Two(
             Word::Async.when(flags.is_async),
@@ -64,7 +67,8 @@ impl Node {
         params: Node,
         body: Node,
     ) -> Result<Node, AllocError>
-        ensures { IfOk result (λ it. term it ≡ node Kind.ArrowFunctionExpression (flag is_async (codes "async") ∷ []) (two (term params) (term body))) }
+        ensures seen { IfOk result (λ it. term it ≡ node Kind.ArrowFunctionExpression (flag is_async (codes "async") ∷ []) (two (term params) (term body))) }
+        ensures tree { IfOk result (λ it. tree_of it ≡ made Kind.ArrowFunctionExpression (flag is_async (codes "async") ∷ []) (tree_of params ∷ tree_of body ∷ [])) }
     {
         Node::of_two(
             alloc,
@@ -81,7 +85,8 @@ impl Node {
         items: Items<Node>,
         rest: Node,
     ) -> Result<Node, AllocError>
-        ensures { IfOk result (λ it. term it ≡ node Kind.FormalParameters [] (two (list (all (map term items))) (term rest))) }
+        ensures seen { IfOk result (λ it. term it ≡ node Kind.FormalParameters [] (two (list (all (map term items))) (term rest))) }
+        ensures tree { IfOk result (λ it. tree_of it ≡ made Kind.FormalParameters [] (listed (map tree_of items) ∷ tree_of rest ∷ [])) }
     {
         Node::of_two(
             alloc,
@@ -98,7 +103,8 @@ impl Node {
         pattern: Node,
         initializer: Node,
     ) -> Result<Node, AllocError>
-        ensures { IfOk result (λ it. term it ≡ node Kind.FormalParameter [] (two (term pattern) (term initializer))) }
+        ensures seen { IfOk result (λ it. term it ≡ node Kind.FormalParameter [] (two (term pattern) (term initializer))) }
+        ensures tree { IfOk result (λ it. tree_of it ≡ made Kind.FormalParameter [] (tree_of pattern ∷ tree_of initializer ∷ [])) }
     {
         Node::of_two(
             alloc,
@@ -115,7 +121,8 @@ impl Node {
         directives: Items<Node>,
         statements: Items<Node>,
     ) -> Result<Node, AllocError>
-        ensures { IfOk result (λ it. term it ≡ node Kind.FunctionBody [] (two (list (all (map term directives))) (list (all (map term statements))))) }
+        ensures seen { IfOk result (λ it. term it ≡ node Kind.FunctionBody [] (two (list (all (map term directives))) (list (all (map term statements))))) }
+        ensures tree { IfOk result (λ it. tree_of it ≡ made Kind.FunctionBody [] (listed (map tree_of directives) ∷ listed (map tree_of statements) ∷ [])) }
     {
         Node::of_two(
             alloc,

@@ -5,6 +5,7 @@ ghost use Rattle.js_term.specs.Node.{return_of, statement_of};
 ghost use Rattle.js_term.specs.Term.{all, list, node, one, two};
 ghost use Rattle.js_term.specs.declared.kind.Kind.TheVariants as Kind;
 ghost use Rattle.js_tree.specs.TermOf.{term};
+ghost use Rattle.js_tree.specs.Tree.{listed, made, tree_of};
 ghost use Rattle.js_tree.specs.Words.{variable_word, word_text};
 
 use crate::node::Node;
@@ -37,21 +38,24 @@ impl VariableDeclarationKind {
 impl Node {
     /// `expression;`
     pub fn expression_statement(alloc: Global, expression: Node) -> Result<Node, AllocError>
-        ensures { IfOk result (λ it. term it ≡ statement_of (term expression)) }
+        ensures seen { IfOk result (λ it. term it ≡ statement_of (term expression)) }
+        ensures tree { IfOk result (λ it. tree_of it ≡ made Kind.ExpressionStatement [] (tree_of expression ∷ [])) }
     {
         Node::of_one(alloc, Kind::ExpressionStatement, Texts::None, expression)
     }
 
     /// `return argument;`, where the argument may be absent.
     pub fn return_statement(alloc: Global, argument: Node) -> Result<Node, AllocError>
-        ensures { IfOk result (λ it. term it ≡ return_of (term argument)) }
+        ensures seen { IfOk result (λ it. term it ≡ return_of (term argument)) }
+        ensures tree { IfOk result (λ it. tree_of it ≡ made Kind.ReturnStatement [] (tree_of argument ∷ [])) }
     {
         Node::of_one(alloc, Kind::ReturnStatement, Texts::None, argument)
     }
 
     /// `{ statements }`
     pub fn block_statement(alloc: Global, statements: Items<Node>) -> Result<Node, AllocError>
-        ensures { IfOk result (λ it. term it ≡ node Kind.BlockStatement [] (one (list (all (map term statements))))) }
+        ensures seen { IfOk result (λ it. term it ≡ node Kind.BlockStatement [] (one (list (all (map term statements))))) }
+        ensures tree { IfOk result (λ it. tree_of it ≡ made Kind.BlockStatement [] (listed (map tree_of statements) ∷ [])) }
     {
         Node::of_list(alloc, Kind::BlockStatement, Texts::None, statements)
     }
@@ -62,7 +66,8 @@ impl Node {
         kind: VariableDeclarationKind,
         declarations: Items<Node>,
     ) -> Result<Node, AllocError>
-        ensures { IfOk result (λ it. term it ≡ node Kind.VariableDeclaration (word_text (variable_word kind) ∷ []) (one (list (all (map term declarations))))) }
+        ensures seen { IfOk result (λ it. term it ≡ node Kind.VariableDeclaration (word_text (variable_word kind) ∷ []) (one (list (all (map term declarations))))) }
+        ensures tree { IfOk result (λ it. tree_of it ≡ made Kind.VariableDeclaration (word_text (variable_word kind) ∷ []) (listed (map tree_of declarations) ∷ [])) }
     {
         Node::of_list(
             alloc,
@@ -74,7 +79,8 @@ impl Node {
 
     /// `id = init` in a declaration, where the value may be absent.
     pub fn variable_declarator(alloc: Global, id: Node, init: Node) -> Result<Node, AllocError>
-        ensures { IfOk result (λ it. term it ≡ node Kind.VariableDeclarator [] (two (term id) (term init))) }
+        ensures seen { IfOk result (λ it. term it ≡ node Kind.VariableDeclarator [] (two (term id) (term init))) }
+        ensures tree { IfOk result (λ it. tree_of it ≡ made Kind.VariableDeclarator [] (tree_of id ∷ tree_of init ∷ [])) }
     {
         Node::of_two(alloc, Kind::VariableDeclarator, Texts::None, id, init)
     }
@@ -85,7 +91,8 @@ impl Node {
         directives: Items<Node>,
         body: Items<Node>,
     ) -> Result<Node, AllocError>
-        ensures { IfOk result (λ it. term it ≡ node Kind.Program [] (two (list (all (map term directives))) (list (all (map term body))))) }
+        ensures seen { IfOk result (λ it. term it ≡ node Kind.Program [] (two (list (all (map term directives))) (list (all (map term body))))) }
+        ensures tree { IfOk result (λ it. tree_of it ≡ made Kind.Program [] (listed (map tree_of directives) ∷ listed (map tree_of body) ∷ [])) }
     {
         Node::of_two(
             alloc,
