@@ -1,0 +1,13 @@
+pub mod Fronts
+pub mod GapLaws
+pub mod SignLaws
+pub mod WordLaws
+pub mod StringLaws
+pub mod TemplateLaws
+pub mod NumberLaws
+pub mod CutLaws
+pub mod TokenLaws
+pub mod Cuts
+pub mod GoalLaws
+pub mod Shorter
+pub mod RawStrings

@@ -1,0 +1,14 @@
+pub mod Fronts
+pub mod Gaps
+pub mod Signs
+pub mod SignTexts
+pub mod Words
+pub mod Strings
+pub mod Templates
+pub mod Numbers
+pub mod Next
+pub mod Parts
+pub mod Lexemes
+pub mod GoalTokens
+pub mod Goals
+pub mod Laws
