@@ -1,0 +1,26 @@
+//! Scopes of the whole language, over terms: which names each scope declares, what a name stands for, and which
+//! names are declared twice.
+//!
+//! The definitions stand in `specs/`. The enums are declared here, so that code and definitions share them.
+#![tactic(auto)]
+
+ghost use Rattle.scope_model.specs.Examples.{Examples};
+ghost use Rattle.scope_model.specs.ConflictExamples.{ConflictExamples};
+
+mod role;
+mod sort;
+
+pub use role::{Role, role_of};
+pub use sort::{ScopeSort, Sort, Sought};
+
+/// At small programs the definitions of scopes say what their pages say.
+#[tactic(auto, using(crate::proofs::Derived::examples))]
+pub fn worked_examples()
+    ensures { Examples }
+{}
+
+/// At small programs the definition of conflicts says what its page says.
+#[tactic(auto, using(crate::proofs::Derived::conflict_examples))]
+pub fn conflict_examples()
+    ensures { ConflictExamples }
+{}
