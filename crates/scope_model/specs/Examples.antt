@@ -7,7 +7,7 @@ use Rattle.js_term.specs.Node.{identifier_of, binding_of, name_of, statement_of}
 use Rattle.scope_model.specs.declared.sort.Sort.TheVariants as Sort
 use Rattle.scope_model.specs.declared.sort.ScopeSort.TheVariants as ScopeSort
 use Rattle.scope_model.specs.declared.role.Role.TheVariants as Role
-use Rattle.scope_model.specs.Names.{Origin, here, imported, Declaration}
+use Rattle.scope_model.specs.Names.{Origin, here, imported, Place, Declaration}
 use Rattle.scope_model.specs.Scopes.{Answer, import_of, local, arguments_of, global, resolved, declares, is_hoist_scope}
 use Rattle.scope_model.specs.Programs.{a, b, f, the_arguments, program, say, declare, var, lets, block, for_of, for_from, case, switch, labeled, caught, array_pattern, parameter, parameter_a, function_of, function, function_f, arrow, class_of, class_a, field, static_block, method, import, default_as, namespace_as, named_as, export_all_as, export_from, export_named, exported, exported_default}
 
@@ -15,7 +15,7 @@ use Rattle.scope_model.specs.Programs.{a, b, f, the_arguments, program, say, dec
 abbrev pub Means : List Term → List (Text × Answer) → Type 0
 Means ts answers = resolved (program ts) ≡ answers
 
-abbrev pub declares_as : Text → Origin → List ℕ → Declaration
+abbrev pub declares_as : Text → Origin → Place → Declaration
 declares_as x o p = record { name = x; origin = o; place = p }
 
 pub record Examples : Type 0 where
