@@ -22,25 +22,32 @@ pub record Scope : Type 0 where
 
 -- ---- What opens a scope
 
+abbrev pub scope_sort : Role → Option ScopeSort
+scope_sort Role.Program = Some ScopeSort.Module
+scope_sort Role.FunctionDeclaration = Some ScopeSort.Function
+scope_sort Role.FunctionExpression = Some ScopeSort.Function
+scope_sort Role.Arrow = Some ScopeSort.Arrow
+scope_sort Role.ClassDeclaration = Some ScopeSort.Class
+scope_sort Role.ClassExpression = Some ScopeSort.Class
+scope_sort Role.Field = Some ScopeSort.Field
+scope_sort Role.StaticBlock = Some ScopeSort.StaticBlock
+scope_sort Role.Block = Some ScopeSort.Block
+scope_sort Role.Switch = Some ScopeSort.Block
+scope_sort Role.Loop = Some ScopeSort.Block
+scope_sort Role.CatchClause = Some ScopeSort.CatchClause
+scope_sort r = None
+
+abbrev pub is_present : Term → Bool
+is_present absent = false
+is_present t = true
+
 -- a field without an initializer opens none
-abbrev pub field_scope : Term → Option ScopeSort
-field_scope absent = None
-field_scope t = Some ScopeSort.Field
+abbrev pub opens : Role → Terms → Bool
+opens Role.Field ts = is_present (kid 1 ts)
+opens r ts = true
 
 abbrev pub opening : Role → Terms → Option ScopeSort
-opening Role.Program ts = Some ScopeSort.Module
-opening Role.FunctionDeclaration ts = Some ScopeSort.Function
-opening Role.FunctionExpression ts = Some ScopeSort.Function
-opening Role.Arrow ts = Some ScopeSort.Arrow
-opening Role.ClassDeclaration ts = Some ScopeSort.Class
-opening Role.ClassExpression ts = Some ScopeSort.Class
-opening Role.Field ts = field_scope (kid 1 ts)
-opening Role.StaticBlock ts = Some ScopeSort.StaticBlock
-opening Role.Block ts = Some ScopeSort.Block
-opening Role.Switch ts = Some ScopeSort.Block
-opening Role.Loop ts = Some ScopeSort.Block
-opening Role.CatchClause ts = Some ScopeSort.CatchClause
-opening r ts = None
+opening r ts = cond (opens r ts) (scope_sort r) None
 
 -- The kids that stand outside of it: the name of a declaration (8.2.1, 15.7.15), the key of a field (15.7.10), and what
 -- a switch looks at (14.12.4).

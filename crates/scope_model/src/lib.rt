@@ -8,10 +8,14 @@ ghost use Rattle.scope_model.specs.Examples.{Examples};
 ghost use Rattle.scope_model.specs.ConflictExamples.{ConflictExamples};
 
 mod role;
+mod seek;
 mod sort;
+mod tables;
 
 pub use role::{Role, role_of};
+pub use seek::{is_request, seek as seek_in};
 pub use sort::{ScopeSort, Sort, Sought};
+pub use tables::{conflicts, has_arguments, is_hoist_scope, is_outside, scope_sort, sees_body};
 
 /// At small programs the definitions of scopes say what their pages say.
 #[tactic(auto, using(crate::proofs::Derived::examples))]
