@@ -11,12 +11,10 @@
 --   7. A `var` inside a catch block, outside inner functions and static blocks, is a name of the pattern that is the
 --      parameter of that block's catch clause (14.15.1, B.3.4).
 use Rattle.std.specs.Prelude.{ℕ, suc, List, [], ◌∷◌, ◌++◌, Option, None, Some, Bool, true, false, cond, ◌&&◌, ◌||◌, nat_le, nat_eq}
-use Rattle.js_term.specs.Term.{Text, is_text, Term, absent, list, node, Terms, none, more, kids_of, head}
+use Rattle.js_term.specs.Term.{is_text, Term, absent, list, node, Terms, none, more, kids_of, head}
 use Rattle.js_term.specs.Scope.{kid}
 use Rattle.scope_model.specs.declared.role.Role.{Role}
-use Rattle.scope_model.specs.declared.role.Role.TheVariants as Role
 use Rattle.scope_model.specs.declared.sort.Sort.{Sort}
-use Rattle.scope_model.specs.declared.sort.Sort.TheVariants as Sort
 use Rattle.scope_model.specs.declared.sort.Sought.TheVariants as Sought
 use Rattle.scope_model.specs.Roles.{role}
 use Rattle.scope_model.specs.Names.{Origin, here, imported, Place, Declaration, under, declared_at, declared_from, role_of}

@@ -1,15 +1,15 @@
 -- What the references of small programs stand for, in text order, and what small programs declare. A number of `local` is that of
 -- the scopes outside the one that declares the name: 0 is the module's. The law `worked_examples` says that each line holds.
-use Rattle.std.specs.Prelude.{◌≡◌, List, [], ◌∷◌, None, Some, codes, true, false}
+use Rattle.std.specs.Prelude.{◌≡◌, List, [], ◌∷◌, None, Some, codes}
 use Rattle.js_term.specs.Term.{Text, Term, absent, list, node, none, more, one, two}
 use Rattle.js_term.specs.declared.kind.Kind.TheVariants as Kind
-use Rattle.js_term.specs.Node.{identifier_of, binding_of, name_of, statement_of}
+use Rattle.js_term.specs.Node.{identifier_of, binding_of, statement_of}
 use Rattle.scope_model.specs.declared.sort.Sort.TheVariants as Sort
-use Rattle.scope_model.specs.declared.sort.ScopeSort.TheVariants as ScopeSort
+use Rattle.scope_model.specs.declared.sort.ScopeSort.{ScopeSort}
 use Rattle.scope_model.specs.declared.role.Role.TheVariants as Role
 use Rattle.scope_model.specs.Names.{Origin, here, imported, Place, Declaration}
-use Rattle.scope_model.specs.Scopes.{Answer, import_of, local, arguments_of, global, resolved, declares, is_hoist_scope}
-use Rattle.scope_model.specs.Programs.{a, b, f, the_arguments, program, say, declare, var, lets, block, for_of, for_from, case, switch, labeled, caught, array_pattern, parameter, parameter_a, function_of, function, function_f, arrow, class_of, class_a, field, static_block, method, import, default_as, namespace_as, named_as, export_all_as, export_from, export_named, exported, exported_default}
+use Rattle.scope_model.specs.Scopes.{Answer, import_of, local, arguments_of, global, resolved, declares, Env, hoist_env}
+use Rattle.scope_model.specs.Programs.{a, b, f, the_arguments, program, say, declare, var, lets, block, for_of, case, switch, labeled, caught, array_pattern, parameter, function_of, function, function_f, arrow, class_of, class_a, field, static_block, method, import, default_as, namespace_as, named_as, export_all_as, export_from, export_named, exported, exported_default}
 
 -- The program's references stand for these.
 abbrev pub Means : List Term → List (Text × Answer) → Type 0
@@ -17,6 +17,11 @@ Means ts answers = resolved (program ts) ≡ answers
 
 abbrev pub declares_as : Text → Origin → Place → Declaration
 declares_as x o p = record { name = x; origin = o; place = p }
+
+-- scopes of these sorts, that declare nothing
+abbrev pub sorts : List ScopeSort → Env
+sorts [] = []
+sorts (s ∷ ss) = record { sort = s; names = [] } ∷ sorts ss
 
 pub record Examples : Type 0 where
   -- `var` and blocks
@@ -30,10 +35,11 @@ pub record Examples : Type 0 where
   -- `a: var b; b; a: { function f() {} f } f`
   pub labels : Means (labeled a (var b) ∷ say b ∷ labeled a (block (function f [] [] ∷ say f ∷ [])) ∷ say f ∷ [])
       ((b, local 0 b) ∷ (f, local 1 f) ∷ (f, global f) ∷ [])
+  -- `a: function f() {} f`: it stands in no module (14.13.1), and declares nothing
+  pub a_labelled_function : Means (labeled a (function f [] []) ∷ say f ∷ []) ((f, global f) ∷ [])
   -- `function f() { for (var a of b); } a`
   pub var_in_a_function : Means (function f [] (for_of (var a) (identifier_of b) (block []) ∷ say a ∷ []) ∷ say a ∷ [])
       ((b, global b) ∷ (a, local 1 a) ∷ (a, global a) ∷ [])
-
   -- heads of loops, switches, catch clauses
 
   -- `for (let a of a) { a } a`
@@ -51,7 +57,6 @@ pub record Examples : Type 0 where
   -- `try {} catch (a) { var a; a } a`
   pub a_catch_parameter_and_a_var : Means (caught (binding_of a) (var a ∷ say a ∷ []) ∷ say a ∷ [])
       ((a, local 1 a) ∷ (a, local 0 a) ∷ [])
-
   -- functions
 
   -- `let a; function f(b = a) { var a; a }`
@@ -68,7 +73,6 @@ pub record Examples : Type 0 where
       ((f, local 1 f) ∷ (f, local 1 f) ∷ (f, global f) ∷ [])
   -- `function f() { f }`: the name is declared outside
   pub a_declared_function : Means (function f [] (say f ∷ []) ∷ []) ((f, local 0 f) ∷ [])
-
   -- `arguments`
 
   -- `arguments; () => arguments`
@@ -86,7 +90,6 @@ pub record Examples : Type 0 where
   -- `class a { static { arguments } [arguments]() { arguments } }`
   pub arguments_in_class_elements : Means (class_a (static_block (say the_arguments ∷ []) ∷ method (identifier_of the_arguments) (say the_arguments ∷ []) ∷ []) ∷ [])
       ((the_arguments, arguments_of 2) ∷ (the_arguments, global the_arguments) ∷ (the_arguments, arguments_of 2) ∷ [])
-
   -- classes
 
   -- `(class a extends a { [a] = a }); a`
@@ -98,7 +101,6 @@ pub record Examples : Type 0 where
   -- `class a { static { var b; function f() {} { var a } a; b; f } } b`
   pub a_static_block : Means (class_a (static_block (var b ∷ function f [] [] ∷ block (var a ∷ []) ∷ say a ∷ say b ∷ say f ∷ []) ∷ []) ∷ say b ∷ [])
       ((a, local 2 a) ∷ (b, local 2 b) ∷ (f, local 2 f) ∷ (b, global b) ∷ [])
-
   -- modules
 
   -- `export * as a from 'm'; import a, { b as f } from 'm'; export { b } from 'm'; import * as b from 'm'; a; f; b`
@@ -110,7 +112,10 @@ pub record Examples : Type 0 where
   -- `export default (function f() {}); f`: an expression declares nothing
   pub an_exported_expression : Means (exported_default (node Kind.ParenthesizedExpression [] (one (function_of Kind.FunctionExpression (binding_of f) [] []))) ∷ say f ∷ [])
       ((f, global f) ∷ [])
-
+  -- the scope that takes `var` names put in: in a block of an arrow, in a static block, and in a field of the module's class
+  pub hoisted_from_a_block : hoist_env (sorts (ScopeSort.Block ∷ ScopeSort.Arrow ∷ ScopeSort.Function ∷ ScopeSort.Module ∷ [])) ≡ sorts (ScopeSort.Arrow ∷ ScopeSort.Function ∷ ScopeSort.Module ∷ [])
+  pub hoisted_in_a_static_block : hoist_env (sorts (ScopeSort.StaticBlock ∷ ScopeSort.Class ∷ ScopeSort.Module ∷ [])) ≡ sorts (ScopeSort.StaticBlock ∷ ScopeSort.Class ∷ ScopeSort.Module ∷ [])
+  pub hoisted_from_a_field : hoist_env (sorts (ScopeSort.Field ∷ ScopeSort.Class ∷ ScopeSort.Module ∷ [])) ≡ sorts (ScopeSort.Module ∷ [])
   -- what a node declares in its scope, with the places
 
   -- `export * from 'm'; import { b as a } from 'm'; { var b } function f() {}`

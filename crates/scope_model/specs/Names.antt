@@ -5,11 +5,8 @@ use Rattle.std.specs.Prelude.{ℕ, suc, List, [], ◌∷◌, ◌++◌, Option, N
 use Rattle.js_term.specs.Term.{Text, is_text, Term, absent, list, node, Terms, none, more, first, items, kids_of, text_of}
 use Rattle.js_term.specs.Scope.{kid}
 use Rattle.scope_model.specs.declared.role.Role.{Role}
-use Rattle.scope_model.specs.declared.role.Role.TheVariants as Role
 use Rattle.scope_model.specs.declared.sort.Sort.{Sort}
-use Rattle.scope_model.specs.declared.sort.Sort.TheVariants as Sort
 use Rattle.scope_model.specs.declared.sort.Sought.{Sought}
-use Rattle.scope_model.specs.declared.sort.Sought.TheVariants as Sought
 use Rattle.scope_model.specs.Roles.{role}
 
 -- Where a declared name comes from: it is declared here, or the request numbered so hands out what is named so; no
@@ -33,7 +30,9 @@ abbrev pub under : ℕ → List Declaration → List Declaration
 under n [] = []
 under n (d ∷ ds) = record { name = d.name; origin = d.origin; place = n ∷ d.place } ∷ under n ds
 
--- What is looked for in the kids of a node, by what is looked for at the node. Expressions declare nothing round them.
+-- What is looked for in the kids of a node, by what is looked for at the node. It is the same for all kids: beside a bound
+-- name stand expressions, parameters and bodies alone, and these pass nothing on, since what they declare belongs to
+-- scopes of their own.
 
 -- `var` names belong to the body round all blocks, the others to the list that they stand in (14.3.1, 14.3.2)
 abbrev pub in_variables : Bool → Sought → Sought

@@ -1,8 +1,7 @@
 -- Small programs for the examples: the nodes that they are made of, each beside what it is written as.
 use Rattle.std.specs.Prelude.{List, [], ◌∷◌, codes}
-use Rattle.js_term.specs.Term.{Text, Term, absent, list, node, Terms, none, more, one, two, all}
+use Rattle.js_term.specs.Term.{Text, Term, absent, list, node, none, more, one, two, all}
 use Rattle.js_term.specs.declared.kind.Kind.{Kind}
-use Rattle.js_term.specs.declared.kind.Kind.TheVariants as Kind
 use Rattle.js_term.specs.Node.{identifier_of, binding_of, name_of, string_of, statement_of, program_of, body_of}
 
 -- names

@@ -1,8 +1,6 @@
 -- The part that each kind plays in scoping. A new kind of an old part adds one row.
 use Rattle.js_term.specs.declared.kind.Kind.{Kind}
-use Rattle.js_term.specs.declared.kind.Kind.TheVariants as Kind
 use Rattle.scope_model.specs.declared.role.Role.{Role}
-use Rattle.scope_model.specs.declared.role.Role.TheVariants as Role
 
 abbrev pub role : Kind → Role
 -- names: looked up (ECMAScript 13.1), bound (8.2.1 BoundNames)

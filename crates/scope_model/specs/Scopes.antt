@@ -6,12 +6,9 @@ use Rattle.std.specs.Prelude.{ℕ, zero, suc, List, [], ◌∷◌, ◌++◌, len
 use Rattle.js_term.specs.Term.{Text, is_text, Term, absent, list, node, Terms, none, more, first, items}
 use Rattle.js_term.specs.Scope.{kid}
 use Rattle.scope_model.specs.declared.role.Role.{Role}
-use Rattle.scope_model.specs.declared.role.Role.TheVariants as Role
 use Rattle.scope_model.specs.declared.sort.Sort.{Sort}
-use Rattle.scope_model.specs.declared.sort.Sort.TheVariants as Sort
 use Rattle.scope_model.specs.declared.sort.Sought.TheVariants as Sought
 use Rattle.scope_model.specs.declared.sort.ScopeSort.{ScopeSort}
-use Rattle.scope_model.specs.declared.sort.ScopeSort.TheVariants as ScopeSort
 use Rattle.scope_model.specs.Roles.{role}
 use Rattle.scope_model.specs.Names.{Origin, here, imported, Declaration, declared_at, under, module_names}
 

@@ -1,19 +1,19 @@
 //! Scopes of the whole language, over terms: which names each scope declares, what a name stands for, and which
 //! names are declared twice.
 //!
-//! The definitions stand in `specs/`. The enums are declared here, so that code and definitions share them.
+//! The definitions stand in `specs/`. The enums that they are made of are declared here, with the tables as code.
 #![tactic(auto)]
 
 ghost use Rattle.scope_model.specs.Examples.{Examples};
 ghost use Rattle.scope_model.specs.ConflictExamples.{ConflictExamples};
 
 mod role;
-mod seek;
+mod seeking;
 mod sort;
 mod tables;
 
 pub use role::{Role, role_of};
-pub use seek::{is_request, seek as seek_in};
+pub use seeking::{is_request, seek};
 pub use sort::{ScopeSort, Sort, Sought};
 pub use tables::{conflicts, has_arguments, is_hoist_scope, is_outside, scope_sort, sees_body};
 

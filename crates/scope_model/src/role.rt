@@ -49,15 +49,15 @@ pub fn role_of(kind: Kind) -> Role
     match kind {
         Kind::Identifier => Role::Reference,
         Kind::BindingIdentifier => Role::Binding,
-        Kind::ObjectPattern => Role::Pattern,
-        Kind::BindingProperty => Role::Pattern,
-        Kind::ArrayPattern => Role::Pattern,
-        Kind::AssignmentPattern => Role::Pattern,
-        Kind::BindingRestElement => Role::Pattern,
-        Kind::VariableDeclarator => Role::Pattern,
-        Kind::FormalParameter => Role::Pattern,
-        Kind::FormalParameterRest => Role::Pattern,
-        Kind::CatchParameter => Role::Pattern,
+        Kind::ObjectPattern
+        | Kind::BindingProperty
+        | Kind::ArrayPattern
+        | Kind::AssignmentPattern
+        | Kind::BindingRestElement
+        | Kind::VariableDeclarator
+        | Kind::FormalParameter
+        | Kind::FormalParameterRest
+        | Kind::CatchParameter => Role::Pattern,
         Kind::FormalParameters => Role::Parameters,
         Kind::VariableDeclaration => Role::VariableDeclaration,
         Kind::FunctionDeclaration => Role::FunctionDeclaration,
@@ -67,25 +67,21 @@ pub fn role_of(kind: Kind) -> Role
         Kind::ClassExpression => Role::ClassExpression,
         Kind::PropertyDefinition => Role::Field,
         Kind::StaticBlock => Role::StaticBlock,
-        Kind::DoWhileStatement => Role::Statement,
-        Kind::IfStatement => Role::Statement,
-        Kind::LabeledStatement => Role::Statement,
-        Kind::TryStatement => Role::Statement,
-        Kind::WhileStatement => Role::Statement,
+        Kind::DoWhileStatement
+        | Kind::IfStatement
+        | Kind::LabeledStatement
+        | Kind::TryStatement
+        | Kind::WhileStatement => Role::Statement,
         Kind::BlockStatement => Role::Block,
-        Kind::ForInStatement => Role::Loop,
-        Kind::ForOfStatement => Role::Loop,
-        Kind::ForStatement => Role::Loop,
+        Kind::ForInStatement | Kind::ForOfStatement | Kind::ForStatement => Role::Loop,
         Kind::SwitchStatement => Role::Switch,
         Kind::SwitchCase => Role::Case,
         Kind::CatchClause => Role::CatchClause,
         Kind::FunctionBody => Role::Body,
         Kind::Program => Role::Program,
-        Kind::ExportDeclaration => Role::Export,
-        Kind::ExportDefaultDeclaration => Role::Export,
+        Kind::ExportDeclaration | Kind::ExportDefaultDeclaration => Role::Export,
         Kind::ImportDeclaration => Role::Import,
-        Kind::ExportAllDeclaration => Role::ExportFrom,
-        Kind::ExportFromDeclaration => Role::ExportFrom,
+        Kind::ExportAllDeclaration | Kind::ExportFromDeclaration => Role::ExportFrom,
         Kind::ImportSpecifier => Role::ImportSpecifier,
         Kind::ImportDefaultSpecifier => Role::DefaultSpecifier,
         Kind::ImportNamespaceSpecifier => Role::NamespaceSpecifier,

@@ -11,16 +11,12 @@ pub fn scope_sort(role: Role) -> Option<ScopeSort>
 {
     match role {
         Role::Program => Some(ScopeSort::Module),
-        Role::FunctionDeclaration => Some(ScopeSort::Function),
-        Role::FunctionExpression => Some(ScopeSort::Function),
+        Role::FunctionDeclaration | Role::FunctionExpression => Some(ScopeSort::Function),
         Role::Arrow => Some(ScopeSort::Arrow),
-        Role::ClassDeclaration => Some(ScopeSort::Class),
-        Role::ClassExpression => Some(ScopeSort::Class),
+        Role::ClassDeclaration | Role::ClassExpression => Some(ScopeSort::Class),
         Role::Field => Some(ScopeSort::Field),
         Role::StaticBlock => Some(ScopeSort::StaticBlock),
-        Role::Block => Some(ScopeSort::Block),
-        Role::Switch => Some(ScopeSort::Block),
-        Role::Loop => Some(ScopeSort::Block),
+        Role::Block | Role::Switch | Role::Loop => Some(ScopeSort::Block),
         Role::CatchClause => Some(ScopeSort::CatchClause),
         _ => None,
     }
@@ -31,10 +27,7 @@ pub fn is_outside(role: Role, n: usize) -> bool
     ensures { result ≡ is_outside role n }
 {
     match role {
-        Role::FunctionDeclaration => n == 0,
-        Role::ClassDeclaration => n == 0,
-        Role::Field => n == 0,
-        Role::Switch => n == 0,
+        Role::FunctionDeclaration | Role::ClassDeclaration | Role::Field | Role::Switch => n == 0,
         _ => false,
     }
 }
@@ -44,8 +37,7 @@ pub fn sees_body(role: Role, n: usize) -> bool
     ensures { result ≡ sees_body role n }
 {
     match role {
-        Role::FunctionExpression => n >= 2,
-        Role::FunctionDeclaration => n >= 2,
+        Role::FunctionDeclaration | Role::FunctionExpression => n >= 2,
         Role::Arrow => n >= 1,
         _ => false,
     }
@@ -55,25 +47,20 @@ pub fn sees_body(role: Role, n: usize) -> bool
 pub fn is_hoist_scope(sort: ScopeSort) -> bool
     ensures { result ≡ is_hoist_scope sort }
 {
-    match sort {
-        ScopeSort::Module => true,
-        ScopeSort::Function => true,
-        ScopeSort::Arrow => true,
-        ScopeSort::StaticBlock => true,
-        _ => false,
-    }
+    matches!(
+        sort,
+        ScopeSort::Module | ScopeSort::Function | ScopeSort::Arrow | ScopeSort::StaticBlock
+    )
 }
 
 /// Whether a scope of this sort has an `arguments` of its own.
 pub fn has_arguments(sort: ScopeSort) -> bool
     ensures { result ≡ has_arguments sort }
 {
-    match sort {
-        ScopeSort::Function => true,
-        ScopeSort::Field => true,
-        ScopeSort::StaticBlock => true,
-        _ => false,
-    }
+    matches!(
+        sort,
+        ScopeSort::Function | ScopeSort::Field | ScopeSort::StaticBlock
+    )
 }
 
 /// Whether a name may not be declared as both in one scope.
@@ -81,10 +68,8 @@ pub fn conflicts(one: Sort, other: Sort) -> bool
     ensures { result ≡ conflicts one other }
 {
     match (one, other) {
-        (Sort::OwnName, _) => false,
-        (_, Sort::OwnName) => false,
-        (Sort::Lexical, _) => true,
-        (_, Sort::Lexical) => true,
+        (Sort::OwnName, _) | (_, Sort::OwnName) => false,
+        (Sort::Lexical, _) | (_, Sort::Lexical) => true,
         (Sort::Parameter, Sort::Parameter) => true,
         _ => false,
     }

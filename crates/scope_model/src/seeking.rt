@@ -14,14 +14,10 @@ pub fn seek(role: Role, is_var: bool, sought: Sought) -> Sought
         Role::VariableDeclaration => in_variables(is_var, sought),
         Role::FunctionDeclaration => in_function(sought),
         Role::ClassDeclaration => in_class(sought),
-        Role::Statement => in_statement(sought),
-        Role::Block => in_statement(sought),
-        Role::Loop => in_statement(sought),
-        Role::Switch => in_statement(sought),
-        Role::CatchClause => in_statement(sought),
+        Role::Statement | Role::Block | Role::Loop | Role::Switch | Role::CatchClause =>
+            in_statement(sought),
         Role::Case => sought,
-        Role::Body => in_body(sought),
-        Role::Export => in_body(sought),
+        Role::Body | Role::Export => in_body(sought),
         _ => Sought::Nothing,
     }
 }
@@ -29,28 +25,9 @@ pub fn seek(role: Role, is_var: bool, sought: Sought) -> Sought
 fn in_variables(is_var: bool, sought: Sought) -> Sought
     ensures { result ≡ in_variables is_var sought }
 {
-    match sought {
-        Sought::Body(_) => {
-            if is_var {
-                Sought::Bound(Sort::Variable)
-            } else {
-                Sought::Bound(Sort::Lexical)
-            }
-        }
-        Sought::Hoisted => {
-            if is_var {
-                Sought::Bound(Sort::Variable)
-            } else {
-                Sought::Nothing
-            }
-        }
-        Sought::Block => {
-            if is_var {
-                Sought::Nothing
-            } else {
-                Sought::Bound(Sort::Lexical)
-            }
-        }
+    match (sought, is_var) {
+        (Sought::Body(_) | Sought::Hoisted, true) => Sought::Bound(Sort::Variable),
+        (Sought::Body(_) | Sought::Block, false) => Sought::Bound(Sort::Lexical),
         _ => Sought::Nothing,
     }
 }
@@ -69,8 +46,7 @@ fn in_class(sought: Sought) -> Sought
     ensures { result ≡ in_class sought }
 {
     match sought {
-        Sought::Body(_) => Sought::Bound(Sort::Lexical),
-        Sought::Block => Sought::Bound(Sort::Lexical),
+        Sought::Body(_) | Sought::Block => Sought::Bound(Sort::Lexical),
         _ => Sought::Nothing,
     }
 }
@@ -79,8 +55,7 @@ fn in_statement(sought: Sought) -> Sought
     ensures { result ≡ in_statement sought }
 {
     match sought {
-        Sought::Body(_) => Sought::Hoisted,
-        Sought::Hoisted => Sought::Hoisted,
+        Sought::Body(_) | Sought::Hoisted => Sought::Hoisted,
         _ => Sought::Nothing,
     }
 }
@@ -116,9 +91,5 @@ fn in_body(sought: Sought) -> Sought
 pub fn is_request(role: Role) -> bool
     ensures { result ≡ is_request role }
 {
-    match role {
-        Role::Import => true,
-        Role::ExportFrom => true,
-        _ => false,
-    }
+    matches!(role, Role::Import | Role::ExportFrom)
 }
