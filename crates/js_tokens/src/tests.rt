@@ -1,4 +1,4 @@
-use crate::{Lexeme, Tokens};
+use crate::Tokens;
 use std::process::Abort;
 
 /// Whether the text's tokens begin and end so, and nothing is left behind them.
@@ -59,27 +59,4 @@ fn other_goals(rt: HostRuntime) {
     let tail = tokens.take_template_tail();
     assert!(rt; matches!(&tail, Some(tail) if tail.characters.is_empty() && !tail.is_middle));
     assert!(rt; tokens.at_end());
-}
-
-#[test]
-fn numbers(rt: HostRuntime) {
-    for text in [
-        "0", "10", "1_000", "5.", ".5", "0.0_1", "1e10", "1E-5", "0xFF", "0B1_0", "0o7",
-    ] {
-        let tokens = Tokens::new(text);
-        assert!(rt;
-            matches!(tokens.peek(), Some(Lexeme::NumericLiteral(raw)) if raw == text),
-            "{text}"
-        );
-    }
-    for text in ["0n", "1_0n", "0xFFn"] {
-        let tokens = Tokens::new(text);
-        assert!(rt;
-            matches!(tokens.peek(), Some(Lexeme::BigIntLiteral(raw)) if raw == text),
-            "{text}"
-        );
-    }
-    for text in ["01", "1_", "3in", "1.5n", "0b2", "1n1", "1__0"] {
-        assert!(rt; Tokens::new(text).peek().is_none(), "{text}");
-    }
 }
