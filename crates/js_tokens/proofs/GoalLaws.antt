@@ -10,13 +10,13 @@ use Rattle.js_term.specs.Lexeme.{is_part}
 use Rattle.js_syntax.specs.Lexical.{has_byte, flag_letters, begins_part, is_regexp_body, is_regexp_rest, are_regexp_flags, in_order, normal_lines, are_template_characters}
 use Rattle.js_syntax.specs.Tokens.{Lexeme, regexp, template_middle, template_tail, Lexed, is_word, is_private_name, is_number, is_bigint, is_string, is_regexp, is_no_substitution, is_head, is_middle, is_tail, is_punctuator, Token}
 use Rattle.js_tokens.specs.Gaps.{Behind, gap}
-use Rattle.js_tokens.specs.Words.{name_run, behind_name}
+use Rattle.js_tokens.specs.Names.{name_run, behind_name}
 use Rattle.js_tokens.specs.Strings.{before}
 use Rattle.js_tokens.specs.Templates.{template_end, body_end}
-use Rattle.js_tokens.specs.Goals.{is_body, is_rest}
+use Rattle.js_tokens.specs.Looks.{is_regexp_lexeme, is_tail_lexeme}
 use Rattle.js_tokens.specs.Next.{Cut, cut_if, regexp_by, regexp_cut, tail_by, tail_cut, behind_first, goal_behind, next_regexp, next_tail}
 use Rattle.js_tokens.proofs.GapLaws.{front_there, front_found}
-use Rattle.js_tokens.proofs.WordLaws.{behind_byte, name_whole, behind_name_stops, behind_name_none}
+use Rattle.js_tokens.proofs.NameLaws.{behind_byte, name_whole, behind_name_stops, behind_name_none}
 use Rattle.js_tokens.proofs.StringLaws.{before_is}
 use Rattle.js_tokens.proofs.TemplateLaws.{part_found, head_there, tail_there, body_there, body_found}
 use Rattle.js_tokens.proofs.TokenLaws.{gap_utf8}
@@ -127,11 +127,11 @@ unfolding next_tail
 tail_token_found a u l b e = goal_found 125 tail_cut a l b (λ s h v. tail_found s l b h) u e
 
 -- The token that stands there is found.
-pub body_token_there : {a b : Text} {l : Lexeme} → Token a l b → IsUtf8 a → is_body l ≡ true → next_regexp a ≡ Some (l, b)
+pub regexp_token_there : {a b : Text} {l : Lexeme} → Token a l b → IsUtf8 a → is_regexp_lexeme l ≡ true → next_regexp a ≡ Some (l, b)
 unfolding next_regexp
-body_token_there {a} {b} {l} t u body = ap (goal_behind 47 regexp_cut) (front_there t.front) ∙ there t.lexed (gap_utf8 t.front.gap u) body
+regexp_token_there {a} {b} {l} t u goal = ap (goal_behind 47 regexp_cut) (front_there t.front) ∙ there t.lexed (gap_utf8 t.front.gap u) goal
   where
-    there : {l : Lexeme} {m rest : Text} → Lexed l m rest → IsUtf8 m → is_body l ≡ true → behind_first 47 regexp_cut m ≡ Some (l, rest)
+    there : {l : Lexeme} {m rest : Text} → Lexed l m rest → IsUtf8 m → is_regexp_lexeme l ≡ true → behind_first 47 regexp_cut m ≡ Some (l, rest)
     there (is_regexp {pattern} flags {rest} p f stops) u e = regexp_there pattern flags rest u p f stops
     there (is_word named stops) u e = absurd (false≢true e)
     there (is_private_name named stops) u e = absurd (false≢true e)
@@ -144,11 +144,11 @@ body_token_there {a} {b} {l} t u body = ap (goal_behind 47 regexp_cut) (front_th
     there (is_tail s h) u e = absurd (false≢true e)
     there (is_punctuator h opens longest) u e = absurd (false≢true e)
 
-pub tail_token_there : {a b : Text} {l : Lexeme} → Token a l b → IsUtf8 a → is_rest l ≡ true → next_tail a ≡ Some (l, b)
+pub tail_token_there : {a b : Text} {l : Lexeme} → Token a l b → IsUtf8 a → is_tail_lexeme l ≡ true → next_tail a ≡ Some (l, b)
 unfolding next_tail
-tail_token_there {a} {b} {l} t u usual = ap (goal_behind 125 tail_cut) (front_there t.front) ∙ there t.lexed usual
+tail_token_there {a} {b} {l} t u goal = ap (goal_behind 125 tail_cut) (front_there t.front) ∙ there t.lexed goal
   where
-    there : {l : Lexeme} {m rest : Text} → Lexed l m rest → is_rest l ≡ true → behind_first 125 tail_cut m ≡ Some (l, rest)
+    there : {l : Lexeme} {m rest : Text} → Lexed l m rest → is_tail_lexeme l ≡ true → behind_first 125 tail_cut m ≡ Some (l, rest)
     there (is_middle s {rest} h) e = middle_is_there s rest h
     there (is_tail s {rest} h) e = tail_is_there s rest h
     there (is_regexp flags p f stops) e = absurd (false≢true e)

@@ -11,12 +11,12 @@ use Rattle.js_syntax.specs.Tokens.{Gap, no_gap, blank, line_end, Front, Lexeme, 
 use Rattle.js_syntax.specs.Tokens as token
 use Rattle.js_syntax.proofs.Fronts.{among}
 use Rattle.js_tokens.specs.Gaps.{Behind, gap}
+use Rattle.js_tokens.specs.Looks.{is_div_lexeme}
 use Rattle.js_tokens.specs.Next.{cut_behind, next}
-use Rattle.js_tokens.proofs.Fronts.{each_of, begins_any_split}
+use Rattle.js_tokens.proofs.Beginnings.{each_of, begins_any_split}
 use Rattle.js_tokens.proofs.GapLaws.{front_there, front_found}
-use Rattle.js_tokens.proofs.WordLaws.{behind_utf8}
-use Rattle.js_tokens.specs.Goals.{is_usual}
-use Rattle.js_tokens.proofs.CutLaws.{cut_there, cut_found}
+use Rattle.js_tokens.proofs.NameLaws.{behind_utf8}
+use Rattle.js_tokens.proofs.LexemeLaws.{cut_there, cut_found}
 
 space_utf8 : (w : Text) → is_one_of w white_space ≡ true → IsUtf8 w
 unfolding is_utf8 chars lib.Utf8.encode
@@ -65,9 +65,9 @@ token_found a u l b e = go (gap false a) refl e
         record { line = line; middle = m; front = front; lexed = cut_found m (gap_utf8 front.gap u) l b e }
 
 -- The token that stands there is found, and no other one, nor another rest.
-pub token_there : {a b : Text} {l : Lexeme} → Token a l b → IsUtf8 a → is_usual l ≡ true → next a ≡ Some (l, b)
+pub token_there : {a b : Text} {l : Lexeme} → Token a l b → IsUtf8 a → is_div_lexeme l ≡ true → next a ≡ Some (l, b)
 unfolding next
-token_there {a} {b} {l} t u usual = ap cut_behind (front_there t.front) ∙ cut_there t.lexed (gap_utf8 t.front.gap u) usual
+token_there {a} {b} {l} t u goal = ap cut_behind (front_there t.front) ∙ cut_there t.lexed (gap_utf8 t.front.gap u) goal
 
 -- what a gap leaves is the end of the text
 pub record Leaves (a b : Text) : Type 0 where

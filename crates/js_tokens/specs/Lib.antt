@@ -1,8 +1,8 @@
 pub mod Fronts
 pub mod Gaps
-pub mod Signs
-pub mod SignTexts
-pub mod Words
+pub mod Punctuators
+pub mod PunctuatorTexts
+pub mod Names
 pub mod Strings
 pub mod Templates
 pub mod Numbers
@@ -10,5 +10,4 @@ pub mod Next
 pub mod Parts
 pub mod Lexemes
 pub mod GoalTokens
-pub mod Goals
-pub mod Laws
+pub mod Looks

@@ -1,21 +1,23 @@
-//! The tokens of a module's text.
+//! The tokens of a module's text (ECMAScript 12), one at a time.
+//!
+//! `Tokens` is a cursor over the text, whose model is the text that is left. It copies nothing and takes no memory.
 #![tactic(auto)]
 
 mod gaps;
 mod goals;
-mod laws;
 mod lexeme;
 mod names;
 mod numbers;
-mod signs;
+mod punctuators;
 mod strings;
 mod templates;
+#[cfg(test)]
+mod tests;
 mod tokens;
 mod values;
 
-pub use goals::{Regexp, Rest};
-pub use laws::{gaps_are_exact, regexps_are_exact, template_rests_are_exact, tokens_are_exact};
+pub use goals::{RegularExpressionLiteral, TemplateSubstitutionTail};
 pub use lexeme::Lexeme;
-pub use signs::Sign;
-pub use tokens::Tokens;
+pub use punctuators::Punctuator;
+pub use tokens::{Span, Tokens};
 pub use values::plain_value;
