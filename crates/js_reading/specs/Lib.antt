@@ -1,0 +1,9 @@
+pub mod Reading
+pub mod Operators
+pub mod Targets
+pub mod Parts
+pub mod Functions
+pub mod Literals
+pub mod Expressions
+pub mod Statements
+pub mod Read
