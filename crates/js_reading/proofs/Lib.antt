@@ -5,3 +5,4 @@ pub mod Covers
 pub mod Patterns
 pub mod ArrowParameters
 pub mod SoundParts
+pub mod SoundFunctions
