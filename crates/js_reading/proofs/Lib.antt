@@ -6,3 +6,4 @@ pub mod Patterns
 pub mod ArrowParameters
 pub mod SoundParts
 pub mod SoundFunctions
+pub mod SoundLiterals
