@@ -11,7 +11,7 @@ use Rattle.js_reading.specs.Reading.{Found, trees}
 use Rattle.js_reading.specs.Targets.{Items, with_rest, with_first, pattern_as, pattern_of, pattern_rest, target_elements, parameter_as, parameters_as, parameter_rest, arrow_parameters}
 use Rattle.js_reading.specs.Literals.{is_barred}
 use Rattle.js_reading.specs.Expressions.{parameters_in}
-use Rattle.js_reading.proofs.Lists.{Held}
+use Rattle.js_reading.proofs.Chains.{Held}
 use Rattle.js_reading.proofs.Covers.{Raw, raw_targets, held_rested, pattern_as_is}
 use Rattle.js_reading.proofs.Patterns.{with_first_is, with_rest_is, some_is, pattern_there, defaulted_there, elements, rest_there}
 

@@ -16,7 +16,7 @@ use Rattle.js_reading.specs.Targets.{Items, with_item, rest_as, part_as, pattern
 use Rattle.js_reading.specs.Parts.{spread_of}
 use Rattle.js_reading.specs.Literals.{ends_with_spread, is_barred, literal, pair_found, shorthand_found, default_found}
 use Rattle.js_reading.proofs.Each.{or_both}
-use Rattle.js_reading.proofs.Lists.{Chain, only, link, Held, held_none, held_some, held_comma}
+use Rattle.js_reading.proofs.Chains.{Chain, only, link, Held, held_none, held_some, held_comma}
 
 -- a node that is no spread
 abbrev pub is_solid : Term → Bool

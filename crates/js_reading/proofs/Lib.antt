@@ -1,9 +1,10 @@
 pub mod Utf8
 pub mod Each
-pub mod Lists
+pub mod Chains
 pub mod Covers
 pub mod Patterns
 pub mod ArrowParameters
 pub mod SoundParts
 pub mod SoundFunctions
 pub mod SoundLiterals
+pub mod Operating

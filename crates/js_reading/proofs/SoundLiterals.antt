@@ -21,7 +21,7 @@ use Rattle.js_reading.specs.Parts.{Key as Keyed, key, element, spread_of}
 use Rattle.js_reading.specs.Functions.{star}
 use Rattle.js_reading.specs.Literals.{modifies_method, modifies_element, is_accessor, takes_comma, array, marked_method, accessor_property, valued, behind_key, shorthand, named_property, property_by, property_item, object, heritage, element_function, method_kind, field, plain_element, word_element, element_by, marked_element, static_block, static_element, class_element, elements, class}
 use Rattle.js_reading.proofs.Each.{Each, each_none, each_some, each_bind, each_weaker, each_if, or_cases, there, seen, seen_word, on_same_line, expect_each, semicolon_each}
-use Rattle.js_reading.proofs.Lists.{group_each}
+use Rattle.js_reading.proofs.Chains.{group_each}
 use Rattle.js_reading.proofs.Covers.{Covers, Raw, RawProperty, raw_pair, raw_function, raw_short, raw_default, raw_rest, array_covers, object_covers}
 use Rattle.js_reading.proofs.SoundParts.{Good, part_each, spread_each, element_each, key_each, member_key_each}
 use Rattle.js_reading.proofs.SoundFunctions.{Apart, Initial, no_initial, initial, Enclosed, star_each, naming_each, initializer_each, enclosed_each, method_function_each}

@@ -16,7 +16,7 @@ use Rattle.js_reading.specs.Reading.{Found, closed, Reading, ◌>>=◌, sees, ex
 use Rattle.js_reading.specs.Parts.{settled, uncovered, spread_of, Key as Keyed, quasi, is_allowed, Quasis, part, expression, spread, item, element, argument, arguments, computed_key, key_by, key, member_key_by, member_key, quasi_by, template_rest, template_by}
 use Rattle.js_reading.proofs.Utf8.{tail_utf8}
 use Rattle.js_reading.proofs.Each.{Each, each_none, each_some, each_bind, each_weaker, each_if, there, seen, expect_each}
-use Rattle.js_reading.proofs.Lists.{Chain, only, link, Held, held_none, held_some, held_comma, separated_each, group_each}
+use Rattle.js_reading.proofs.Chains.{Chain, only, link, Held, held_none, held_some, held_comma, separated_each, group_each}
 use Rattle.js_reading.proofs.Covers.{Covers, Raw, raw, raw_spread, raw_hole, ItemOf, held_group, raw_argument}
 
 -- ---- what a goal's answer is
