@@ -1,2 +1,4 @@
 pub mod Utf8
 pub mod Each
+pub mod TokensThere
+pub mod Opens
