@@ -2,3 +2,4 @@ pub mod Utf8
 pub mod Each
 pub mod TokensThere
 pub mod Opens
+pub mod TokensEnd
