@@ -3,3 +3,4 @@ pub mod Each
 pub mod TokensThere
 pub mod Opens
 pub mod TokensEnd
+pub mod Lists
