@@ -4,3 +4,4 @@ pub mod TokensThere
 pub mod Opens
 pub mod TokensEnd
 pub mod Lists
+pub mod Follows
