@@ -8,3 +8,8 @@ pub mod SoundParts
 pub mod SoundFunctions
 pub mod SoundLiterals
 pub mod Operating
+pub mod TokensThere
+pub mod Opens
+pub mod TokensEnd
+pub mod Lists
+pub mod Follows
