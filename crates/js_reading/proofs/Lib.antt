@@ -5,6 +5,7 @@ pub mod Covers
 pub mod Patterns
 pub mod ArrowParameters
 pub mod SoundParts
+pub mod Directing
 pub mod SoundFunctions
 pub mod SoundLiterals
 pub mod Operating

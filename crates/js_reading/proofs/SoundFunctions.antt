@@ -7,7 +7,7 @@ use Rattle.js_term.specs.Lexeme.{is_reserved}
 use Rattle.js_term.specs.Node.{binding_of}
 use Rattle.js_syntax.specs.Nodes.{of_text, of_part, parameter_of}
 use Rattle.js_syntax.specs.Tokens.{Lexeme, word, private_name, number, big_integer, string, no_substitution, template_head, sign, regexp, template_middle, template_tail, Token, Word, Sign}
-use Rattle.js_syntax.specs.Edges.{full, last_absent, begins_with_string}
+use Rattle.js_syntax.specs.Edges.{full, last_absent}
 use Rattle.js_syntax.specs.Spelling.{Stands, Item, Listed, Rested, Rest, Async, Star, Naming, Semicolon, Pattern, Parameters, Body, Directives, Statements, FunctionText, MethodFunction}
 use Rattle.js_syntax.specs.Spelling as spell
 use Rattle.js_tokens.specs.Next.{lexeme, after}
@@ -18,6 +18,7 @@ use Rattle.js_reading.specs.Functions.{star, naming_by, naming, Parameters as Li
 use Rattle.js_reading.proofs.Each.{Each, each_none, each_some, each_bind, each_weaker, each_if, There, there, seen, expect_each, semicolon_each}
 use Rattle.js_reading.proofs.ArrowParameters.{parameters_present}
 use Rattle.js_reading.proofs.SoundParts.{Good, part_each}
+use Rattle.js_reading.proofs.Directing.{apart}
 
 pub star_each : (a : Text) → IsUtf8 a → Each (λ s b. Star s a b) (star a)
 unfolding star
@@ -130,10 +131,6 @@ directives_each (suc n) found a u = turn (λ fs c w. directives_each n fs c w) (
           ends = rest.ends;
         })
 
--- Where no directive stands, the first statement is no string alone.
-abbrev pub Apart : Type 0
-Apart = (a b : Text) (ss : List Term) → IsUtf8 a → directive_by (lexeme a) (after a) ≡ None → Statements ss a b → begins_with_string ss ≡ false
-
 -- directives up to where there are no more
 pub record Directing (ds : List Term) (a b : Text) : Type 0 where
   pub stand : Directives ds a b
@@ -153,7 +150,7 @@ pub record Enclosed (ss : List Term) (a b : Text) : Type 0 where
   pub stand : Statements ss a rest
   pub close : Sign (codes "}") rest b
 
-module _ (sub : Goal → Text → Reading Found) (good : Good sub) (apart : Apart) where
+module _ (sub : Goal → Text → Reading Found) (good : Good sub) where
   pub bound_each : (a : Text) → IsUtf8 a → Each (λ p b. Pattern p a b) (bound sub a)
   unfolding bound
   bound_each a u = each_bind _ (good goal.Pattern a u) (λ f b v x. each_some f.tree b v x)

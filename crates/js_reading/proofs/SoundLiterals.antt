@@ -24,7 +24,7 @@ use Rattle.js_reading.proofs.Each.{Each, each_none, each_some, each_bind, each_w
 use Rattle.js_reading.proofs.Chains.{group_each}
 use Rattle.js_reading.proofs.Covers.{Covers, Raw, RawProperty, raw_pair, raw_function, raw_short, raw_default, raw_rest, array_covers, object_covers}
 use Rattle.js_reading.proofs.SoundParts.{Good, part_each, spread_each, element_each, key_each, member_key_each}
-use Rattle.js_reading.proofs.SoundFunctions.{Apart, Initial, no_initial, initial, Enclosed, star_each, naming_each, initializer_each, enclosed_each, method_function_each}
+use Rattle.js_reading.proofs.SoundFunctions.{Initial, no_initial, initial, Enclosed, star_each, naming_each, initializer_each, enclosed_each, method_function_each}
 
 -- an expression is no private name
 public_stands : {i : Bool} {n : ℕ} {e : Term} {a b : Text} → Stands i n e a b → no_private e ≡ true
@@ -111,7 +111,7 @@ pub record GivesElements (found es : List Term) (a b : Text) : Type 0 where
   pub whole : es ≡ found ++ new
   pub stand : Elements new a b
 
-module _ (sub : Goal → Text → Reading Found) (good : Good sub) (apart : Apart) where
+module _ (sub : Goal → Text → Reading Found) (good : Good sub) where
   -- behind `[`
   pub array_each : {i : Bool} (a b : Text) → IsUtf8 b → Sign (codes "[") a b → Each (λ f c. Covers i 0 f a c) (array sub b)
   unfolding array
@@ -123,22 +123,22 @@ module _ (sub : Goal → Text → Reading Found) (good : Good sub) (apart : Apar
   unfolding marked_method
   marked_method_each async s a b u (m, mark, star') =
       each_bind _ (key_each sub good b u) (λ k c v x.
-      each_bind _ (method_function_each sub good apart true async s c v) (λ f d w y.
+      each_bind _ (method_function_each sub good true async s c v) (λ f d w y.
       each_some _ _ w (raw_function (spell.a_method (spell.method mark star' (spell.public_key x) y) (key_public x)) refl (method_no_target (codes "init") true k.0 k.1 y))))
 
   accessor_each : (kind a b : Text) → IsUtf8 b → is_accessor kind ≡ true → Word kind a b → Each (λ f c. RawProperty f a c) (accessor_property sub kind b)
   unfolding accessor_property
   accessor_each kind a b u is = accessor_cases (λ kind. Word kind a b → Each (λ f c. RawProperty f a c) (accessor_property sub kind b)) kind is
-      (λ tok. each_bind _ (key_each sub good b u) (λ k c v x. each_bind _ (method_function_each sub good apart true [] [] c v) (λ f d w y.
+      (λ tok. each_bind _ (key_each sub good b u) (λ k c v x. each_bind _ (method_function_each sub good true [] [] c v) (λ f d w y.
         each_some _ _ w (raw_function (spell.an_accessor (spell.getter tok (spell.public_key x) y) (key_public x)) refl (method_no_target (codes "get") false k.0 k.1 y)))))
-      (λ tok. each_bind _ (key_each sub good b u) (λ k c v x. each_bind _ (method_function_each sub good apart false [] [] c v) (λ f d w y.
+      (λ tok. each_bind _ (key_each sub good b u) (λ k c v x. each_bind _ (method_function_each sub good false [] [] c v) (λ f d w y.
         each_some _ _ w (raw_function (spell.an_accessor (spell.setter tok (spell.public_key x) y) (key_public x)) refl (method_no_target (codes "set") false k.0 k.1 y)))))
 
   behind_key_each : (k : Keyed) (a b : Text) → IsUtf8 b → Key k.0 k.1 a b → Each (λ f c. RawProperty f a c) (behind_key sub k b)
   unfolding behind_key valued
   behind_key_each k a b u x = each_if (sees (codes ":") b) _ _
       (λ is. let t = seen (codes ":") b u is in each_bind _ (good (goal.Expression 2 true) (after b) t.utf8) (λ f c v y. each_some _ _ v (raw_pair x t.token y)))
-      (λ _. each_bind _ (method_function_each sub good apart true [] [] b u) (λ f c v y.
+      (λ _. each_bind _ (method_function_each sub good true [] [] b u) (λ f c v y.
         each_some _ _ v (raw_function (spell.a_method (spell.method spell.no_async spell.no_star (spell.public_key x) y) (key_public x)) refl (method_no_target (codes "init") true k.0 k.1 y))))
 
   shorthand_each : (x a b : Text) → IsUtf8 b → Word x a b → Each (λ f c. RawProperty f a c) (shorthand sub x b)
@@ -204,21 +204,21 @@ module _ (sub : Goal → Text → Reading Found) (good : Good sub) (apart : Apar
   unfolding element_function
   method_element_each static async s a m b u held (n, mark, star') =
       each_bind _ (member_key_each sub good b u) (λ k c v x.
-      each_bind _ (method_function_each sub good apart true async s c v) (λ f d w y.
+      each_bind _ (method_function_each sub good true async s c v) (λ f d w y.
       each_if (is_constructor static k.0 k.1) _ _ (λ _. each_none) (λ other. each_some _ _ w (spell.method_element other held (spell.method mark star' x y)))))
 
   accessor_element_each : (kind static a m b : Text) → IsUtf8 b → Static static a m → is_accessor kind ≡ true → Word kind m b → Each (λ e c. ClassElement e a c) (element_function sub kind static (takes_comma kind) [] [] b)
   unfolding element_function
   accessor_element_each kind static a m b u held is = accessor_cases (λ kind. Word kind m b → Each (λ e c. ClassElement e a c) (element_function sub kind static (takes_comma kind) [] [] b)) kind is
-      (λ tok. each_bind _ (member_key_each sub good b u) (λ k c v x. each_bind _ (method_function_each sub good apart true [] [] c v) (λ f d w y.
+      (λ tok. each_bind _ (member_key_each sub good b u) (λ k c v x. each_bind _ (method_function_each sub good true [] [] c v) (λ f d w y.
         each_if (is_constructor static k.0 k.1) _ _ (λ _. each_none) (λ other. each_some _ _ w (spell.accessor_element other held (spell.getter tok x y))))))
-      (λ tok. each_bind _ (member_key_each sub good b u) (λ k c v x. each_bind _ (method_function_each sub good apart false [] [] c v) (λ f d w y.
+      (λ tok. each_bind _ (member_key_each sub good b u) (λ k c v x. each_bind _ (method_function_each sub good false [] [] c v) (λ f d w y.
         each_if (is_constructor static k.0 k.1) _ _ (λ _. each_none) (λ other. each_some _ _ w (spell.accessor_element other held (spell.setter tok x y))))))
 
   field_each : (static : Text) (k : Keyed) (a m b : Text) → IsUtf8 b → Static static a m → MemberKey k.0 k.1 m b → Each (λ e c. ClassElement e a c) (field sub static k b)
   unfolding field
   field_each static k a m b u held x =
-      each_bind _ (initializer_each sub good apart true b u) (λ v c w y.
+      each_bind _ (initializer_each sub good true b u) (λ v c w y.
       each_bind _ (semicolon_each (field_edge static k.0 k.1 v) c w) (λ _ d z end. each_some _ _ z (spell.field_element held x (initial_initializer y) end)))
 
   -- a method without a mark, which may be the constructor
@@ -232,7 +232,7 @@ module _ (sub : Goal → Text → Reading Found) (good : Good sub) (apart : Apar
   unfolding plain_element
   plain_element_each static a m u held =
       each_bind _ (member_key_each sub good m u) (λ k b v x. each_if (sees (codes "(") b) _ _
-      (λ _. each_bind _ (method_function_each sub good apart true [] [] b v) (λ f d w y. each_some _ _ w (plain_method static k f (is_constructor static k.0 k.1) refl held x y)))
+      (λ _. each_bind _ (method_function_each sub good true [] [] b v) (λ f d w y. each_some _ _ w (plain_method static k f (is_constructor static k.0 k.1) refl held x y)))
       (λ _. field_each static k a m b v held x))
 
   word_element_each : (static x a m : Text) → IsUtf8 m → Static static a m → lexeme m ≡ Some (word x) → Each (λ e c. ClassElement e a c) (word_element sub static x m)
@@ -270,7 +270,7 @@ module _ (sub : Goal → Text → Reading Found) (good : Good sub) (apart : Apar
   static_element_each : (a b : Text) → IsUtf8 b → Word (codes "static") a b → Each (λ e c. ClassElement e a c) (static_element sub b)
   unfolding static_element static_block
   static_element_each a b u tok = each_if (sees (codes "{") b) _ _
-      (λ is. let t = seen (codes "{") b u is in each_bind _ (enclosed_each sub good apart (after b) t.utf8) (λ ss c v x. each_some _ _ v (spell.static_block tok t.token x.stand x.close)))
+      (λ is. let t = seen (codes "{") b u is in each_bind _ (enclosed_each sub good (after b) t.utf8) (λ ss c v x. each_some _ _ v (spell.static_block tok t.token x.stand x.close)))
       (λ _. marked_element_each (codes "static") a b u (spell.with_static tok))
 
   class_element_each : (a : Text) → IsUtf8 a → Each (λ e b. ClassElement e a b) (class_element sub a)
