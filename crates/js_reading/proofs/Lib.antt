@@ -9,6 +9,8 @@ pub mod Directing
 pub mod SoundFunctions
 pub mod SoundLiterals
 pub mod Operating
+pub mod SoundMembers
+pub mod SoundExpressions
 pub mod TokensThere
 pub mod Opens
 pub mod TokensEnd

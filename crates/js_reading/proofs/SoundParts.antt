@@ -41,7 +41,7 @@ pub record StandsHigh (i : Bool) (least : ℕ) (e : Term) (a b : Text) : Type 0 
   pub high : least ≤ level
   pub stands : Stands i level e a b
 
-joined_stands : {i : Bool} {es : List Term} {a b : Text} → Listed (spell.expression i) es a b → Expression i (joined es) a b
+pub joined_stands : {i : Bool} {es : List Term} {a b : Text} → Listed (spell.expression i) es a b → Expression i (joined es) a b
 joined_stands (spell.last (spell.an_expression s)) = spell.single s
 joined_stands (spell.and x tok (spell.last y)) = spell.sequence refl (spell.and x tok (spell.last y))
 joined_stands (spell.and x tok (spell.and y tok' rest)) = spell.sequence refl (spell.and x tok (spell.and y tok' rest))
