@@ -11,6 +11,7 @@ pub mod SoundLiterals
 pub mod Operating
 pub mod SoundMembers
 pub mod SoundExpressions
+pub mod SoundClimb
 pub mod TokensThere
 pub mod Opens
 pub mod TokensEnd

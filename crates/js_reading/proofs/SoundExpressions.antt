@@ -41,7 +41,7 @@ function_closed (spell.function m w s id ps t) = (refl, refl)
 class_closed : {f : Term} {a b : Text} → ClassText Kind.ClassExpression f a b → (is_open f ≡ false) × (is_solid f ≡ true)
 class_closed (spell.class w id h x es y) = (refl, refl)
 
-access_closed : {optional : Bool} {o e : Term} {a b : Text} → Access optional o e a b → (is_open e ≡ false) × (is_solid e ≡ true)
+pub access_closed : {optional : Bool} {o e : Term} {a b : Text} → Access optional o e a b → (is_open e ≡ false) × (is_solid e ≡ true)
 access_closed (spell.static_access d w) = (refl, refl)
 access_closed (spell.computed_access q x e y) = (refl, refl)
 access_closed (spell.private_access d w) = (refl, refl)
