@@ -12,6 +12,7 @@ pub mod Operating
 pub mod SoundMembers
 pub mod SoundExpressions
 pub mod SoundClimb
+pub mod SoundStatements
 pub mod TokensThere
 pub mod Opens
 pub mod TokensEnd
