@@ -74,7 +74,7 @@ string_alone {b = b} {c = c} (a_string raw v is tok) u end none' =
     let there = directive_there tok u (subst (λ (z : Term). Semicolon (edge z) b c) is end) in
     absurd (let bad : None ≡ Some (raw, c) = sym none' ∙ there in cc)
 
-no_string : {s : Term} {a b : Text} → Statement s a b → IsUtf8 a → directive_by (lexeme a) (after a) ≡ None → is_string_statement s ≡ false
+pub no_string : {s : Term} {a b : Text} → Statement s a b → IsUtf8 a → directive_by (lexeme a) (after a) ≡ None → is_string_statement s ≡ false
 no_string (spell.block_statement (spell.block x ss y)) u h = refl
 no_string (spell.declaration (spell.variables (spell.declarators is w ds) end)) u h = refl
 no_string (spell.declaration (spell.function_declaration n (spell.function p w s id ps t))) u h = refl

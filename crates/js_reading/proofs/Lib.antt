@@ -13,6 +13,7 @@ pub mod SoundMembers
 pub mod SoundExpressions
 pub mod SoundClimb
 pub mod SoundStatements
+pub mod SoundModules
 pub mod TokensThere
 pub mod Opens
 pub mod TokensEnd

@@ -81,11 +81,11 @@ a_clause (a_case tok x) colon ss cs = spell.next_case tok x colon ss cs
 a_clause (a_default tok) colon ss cs = spell.default_case tok colon ss cs
 
 -- a word is none of these
-word_no_definition : (x a : Text) → lexeme a ≡ Some (word x) → is_text x (codes "function") ≡ false → is_text x (codes "class") ≡ false → (is_text x (codes "async") && begins_async_function (after a)) ≡ false → begins_definition a ≡ false
+pub word_no_definition : (x a : Text) → lexeme a ≡ Some (word x) → is_text x (codes "function") ≡ false → is_text x (codes "class") ≡ false → (is_text x (codes "async") && begins_async_function (after a)) ≡ false → begins_definition a ≡ false
 unfolding sees_word
 word_no_definition x a is f c y = rw (is, f, c, y) refl
 
-other_no_definition : (a : Text) (o : Option Lexeme) → lexeme a ≡ o → ((w : Text) → is_word w o ≡ false) → begins_definition a ≡ false
+pub other_no_definition : (a : Text) (o : Option Lexeme) → lexeme a ≡ o → ((w : Text) → is_word w o ≡ false) → begins_definition a ≡ false
 unfolding sees_word
 other_no_definition a o is none' = rw (is, none' (codes "function"), none' (codes "class"), none' (codes "async")) refl
 
@@ -106,7 +106,7 @@ module _ (sub : Goal → Text → Reading Found) (good : Good sub) where
       (λ is. let t = seen (codes "[") a u is in each_bind _ (array_each sub good {i = true} a (after a) t.utf8 t.token) (λ f b v c. pattern_from v c))
       (λ _. each_bind _ (binding_each a u) (λ x b v (free, tok). each_some _ _ v (spell.binding free tok))))
 
-  inner_each : (a : Text) → IsUtf8 a → Each (λ s b. Statement s a b) (inner sub a)
+  pub inner_each : (a : Text) → IsUtf8 a → Each (λ s b. Statement s a b) (inner sub a)
   unfolding inner
   inner_each a u = each_bind _ (good goal.Statement a u) (λ f b v x. each_some f.tree b v x)
 
@@ -139,17 +139,17 @@ module _ (sub : Goal → Text → Reading Found) (good : Good sub) where
   unfolding declarators
   declarators_each i a u = each_weaker (separated_each (spell.declarator i) (declarator sub i) (declarator_each i) (length a) [] a u) (λ ds b x. subst (λ (z : List Term). Listed (spell.declarator i) z a b) (sym x.whole) x.listed)
 
-  variables_each : (kind a b : Text) → IsUtf8 b → is_declaring kind ≡ true → Word kind a b → Each (λ s c. Declaration s a c) (variables sub kind b)
+  pub variables_each : (kind a b : Text) → IsUtf8 b → is_declaring kind ≡ true → Word kind a b → Each (λ s c. Declaration s a c) (variables sub kind b)
   unfolding variables
   variables_each kind a b u is tok =
       each_bind _ (declarators_each true b u) (λ ds c v x. each_bind _ (semicolon_each (declared_edge ds) c v) (λ _ d w end. each_some _ _ w (spell.variables (spell.declarators is tok x) end)))
 
-  function_declaration_each : (async a b c : Text) → IsUtf8 c → Async async a b → Word (codes "function") b c → Each (λ s d. Declaration s a d) (function_declaration sub async c)
+  pub function_declaration_each : (async a b c : Text) → IsUtf8 c → Async async a b → Word (codes "function") b c → Each (λ s d. Declaration s a d) (function_declaration sub async c)
   unfolding function_declaration
   function_declaration_each async a b c u mark tok = each_bind _ (function_each sub good Kind.FunctionDeclaration async a b c u mark tok) (λ f d v x.
       each_if (is_unnamed f) _ _ (λ _. each_none) (λ h. each_some f d v (spell.function_declaration h x)))
 
-  class_declaration_each : (a b : Text) → IsUtf8 b → Word (codes "class") a b → Each (λ s c. Declaration s a c) (class_declaration sub b)
+  pub class_declaration_each : (a b : Text) → IsUtf8 b → Word (codes "class") a b → Each (λ s c. Declaration s a c) (class_declaration sub b)
   unfolding class_declaration
   class_declaration_each a b u tok = each_bind _ (class_each sub good Kind.ClassDeclaration a b u tok) (λ f c v x.
       each_if (is_unnamed f) _ _ (λ _. each_none) (λ h. each_some f c v (spell.class_declaration h x)))
