@@ -14,6 +14,7 @@ pub mod SoundExpressions
 pub mod SoundClimb
 pub mod SoundStatements
 pub mod SoundModules
+pub mod Sound
 pub mod TokensThere
 pub mod Opens
 pub mod TokensEnd

@@ -8,7 +8,7 @@ use Rattle.js_term.specs.Lexeme.{is_reserved}
 use Rattle.js_term.specs.Node.{identifier_of, name_of, string_of, specifier_of, export_declaration_of}
 use Rattle.js_syntax.specs.Nodes.{of_part, of_parts, of_list, export_specifier_of}
 use Rattle.js_syntax.specs.Tokens.{Lexeme, word, private_name, number, big_integer, string, no_substitution, template_head, sign, regexp, template_middle, template_tail, Token, Word, Sign, AtEnd}
-use Rattle.js_syntax.specs.Edges.{exports, plain, edge, begins_with_brace, begins_with_definition, begins_with_string}
+use Rattle.js_syntax.specs.Edges.{exports, plain, edge, begins_with_brace, begins_with_definition, is_string_statement, begins_with_string}
 use Rattle.js_syntax.specs.Spelling.{Async, Statement, Declaration, Directives, Semicolon, FunctionText, ClassText}
 use Rattle.js_syntax.specs.Spelling as spell
 use Rattle.js_syntax.specs.Modules.{ExportName, Side, Specifier, Specifiers, Braced, Namespace, ImportClause, From, Default, ModuleItem, ModuleItems}
@@ -244,3 +244,158 @@ pub record Body (ds ss : List Term) (a : Text) : Type 0 where
   pub directives : Directives ds a middle
   pub items : ModuleItems ss middle rest
   pub end : AtEnd rest
+
+-- ---- items
+
+-- an item is no string alone where no directive stands
+no_string_item : {t : Term} {a b : Text} → ModuleItem t a b → IsUtf8 a → directive_by (lexeme a) (after a) ≡ None → is_string_statement t ≡ false
+no_string_item (module'.statement s) u h = no_string s u h
+no_string_item (module'.bare_import tok x end) u h = refl
+no_string_item (module'.import_from tok x f end) u h = refl
+no_string_item (module'.export_all tok star f end) u h = refl
+no_string_item (module'.export_all_as tok star as' m f end) u h = refl
+no_string_item (module'.export_named tok x end) u h = refl
+no_string_item (module'.export_from tok x f end) u h = refl
+no_string_item (module'.export_declaration tok d) u h = refl
+no_string_item (module'.export_default tok tok' d) u h = refl
+
+no_string_items : {ss : List Term} {a b : Text} → ModuleItems ss a b → IsUtf8 a → directive_by (lexeme a) (after a) ≡ None → begins_with_string ss ≡ false
+no_string_items module'.no_more_items u h = refl
+no_string_items (module'.next_item x rest) u h = no_string_item x u h
+
+module _ (sub : Goal → Text → Reading Found) (good : Good sub) where
+  default_expression_each : (a : Text) → IsUtf8 a → begins_definition a ≡ false → Each (λ d b. Default d a b) (default_expression sub a)
+  unfolding default_expression
+  default_expression_each a u free = each_bind _ (part_each sub good 2 true a u) (λ e b v x. each_bind _ (semicolon_each (edge e) b v) (λ _ c w end.
+      each_some e c w (module'.default_expression (no_definition (expression_opens (spell.single x.stands) u) free) x.stands end)))
+
+  default_word_each : (x a : Text) → IsUtf8 a → lexeme a ≡ Some (word x) → Each (λ d b. Default d a b) (default_word sub x a)
+  unfolding begins_async_function
+  default_word_each x a u is = let t = there a u _ is in
+      each_if (is_text x (codes "function")) _ _ (λ e. each_weaker (function_each sub good Kind.FunctionDeclaration [] a a (after a) t.utf8 spell.no_async (as_word (codes "function") e t.token)) (λ f b y. module'.default_function y)) (λ nf.
+      each_if (is_text x (codes "async") && begins_async_function (after a)) _ _
+      (λ h. let (e, on) = and_parts (is_text x (codes "async")) (begins_async_function (after a)) h in
+        let (line, f) = and_parts (same_line (after a)) (sees_word (codes "function") (after a)) on in
+        let o = seen_word (codes "function") (after a) t.utf8 f in
+        each_weaker (function_each sub good Kind.FunctionDeclaration (codes "async") a (after a) (after (after a)) o.utf8 (spell.with_async (as_word (codes "async") e t.token) (on_same_line (after a) line)) o.token) (λ f b y. module'.default_function y)) (λ na.
+      each_if (is_text x (codes "class")) _ _ (λ e. each_weaker (class_each sub good Kind.ClassDeclaration a (after a) t.utf8 (as_word (codes "class") e t.token)) (λ f b y. module'.default_class y))
+      (λ nc. default_expression_each a u (word_no_definition x a is nf nc na))))
+
+  default_each : (a b c : Text) → IsUtf8 c → Word (codes "export") a b → Word (codes "default") b c → Each (λ t d. ModuleItem t a d) (default sub c)
+  unfolding default
+  default_each a b c u tok tok' = each_bind _ (go (lexeme c) refl) (λ d e v x. each_some _ _ v (module'.export_default tok tok' x))
+    where
+      go : (o : Option Lexeme) → lexeme c ≡ o → Each (λ d e. Default d c e) (default_by sub o c)
+      go (Some (word x)) is = default_word_each x c u is
+      go None is = default_expression_each c u (other_no_definition c _ is (λ w. refl))
+      go (Some (private_name x)) is = default_expression_each c u (other_no_definition c _ is (λ w. refl))
+      go (Some (number x)) is = default_expression_each c u (other_no_definition c _ is (λ w. refl))
+      go (Some (big_integer x)) is = default_expression_each c u (other_no_definition c _ is (λ w. refl))
+      go (Some (string x v)) is = default_expression_each c u (other_no_definition c _ is (λ w. refl))
+      go (Some (regexp x v)) is = default_expression_each c u (other_no_definition c _ is (λ w. refl))
+      go (Some (no_substitution x)) is = default_expression_each c u (other_no_definition c _ is (λ w. refl))
+      go (Some (template_head x)) is = default_expression_each c u (other_no_definition c _ is (λ w. refl))
+      go (Some (template_middle x)) is = default_expression_each c u (other_no_definition c _ is (λ w. refl))
+      go (Some (template_tail x)) is = default_expression_each c u (other_no_definition c _ is (λ w. refl))
+      go (Some (sign x)) is = default_expression_each c u (other_no_definition c _ is (λ w. refl))
+
+  declaration_each : (x a : Text) → IsUtf8 a → lexeme a ≡ Some (word x) → Each (λ d b. Declaration d a b) (declaration_word sub x a)
+  unfolding begins_async_function
+  declaration_each x a u is = let t = there a u _ is in
+      each_if (is_declaring x) _ _ (λ e. variables_each sub good x a (after a) t.utf8 e t.token) (λ _.
+      each_if (is_text x (codes "function")) _ _ (λ e. function_declaration_each sub good [] a a (after a) t.utf8 spell.no_async (as_word (codes "function") e t.token)) (λ _.
+      each_if (is_text x (codes "async") && begins_async_function (after a)) _ _
+      (λ h. let (e, on) = and_parts (is_text x (codes "async")) (begins_async_function (after a)) h in
+        let (line, f) = and_parts (same_line (after a)) (sees_word (codes "function") (after a)) on in
+        let o = seen_word (codes "function") (after a) t.utf8 f in
+        function_declaration_each sub good (codes "async") a (after a) (after (after a)) o.utf8 (spell.with_async (as_word (codes "async") e t.token) (on_same_line (after a) line)) o.token) (λ _.
+      each_if (is_text x (codes "class")) _ _ (λ e. class_declaration_each sub good a (after a) t.utf8 (as_word (codes "class") e t.token)) (λ _. each_none))))
+
+  exported_declaration_each : (x a b : Text) → IsUtf8 b → Word (codes "export") a b → lexeme b ≡ Some (word x) → Each (λ t c. ModuleItem t a c) (exported_declaration sub x b)
+  unfolding exported_declaration
+  exported_declaration_each x a b u tok is = each_bind _ (declaration_each x b u is) (λ d c v y. each_some _ _ v (module'.export_declaration tok y))
+
+  export_each : (a b : Text) → IsUtf8 b → Word (codes "export") a b → Each (λ t c. ModuleItem t a c) (export_item sub b)
+  unfolding export_item
+  export_each a b u tok = go (lexeme b) refl
+    where
+      go : (o : Option Lexeme) → lexeme b ≡ o → Each (λ t c. ModuleItem t a c) (export_by sub o b)
+      go (Some (word x)) is = let t = there b u _ is in each_if (is_text x (codes "default")) _ _
+          (λ e. default_each a b (after b) t.utf8 tok (as_word (codes "default") e t.token))
+          (λ _. exported_declaration_each x a b u tok is)
+      go (Some (sign s)) is = let t = there b u _ is in each_if (is_text s (codes "*")) _ _
+          (λ e. export_all_each a b (after b) t.utf8 tok (as_sign (codes "*") e t.token))
+          (λ _. export_pairs_each a b u tok)
+      go None is = each_none
+      go (Some (private_name x)) is = each_none
+      go (Some (number x)) is = each_none
+      go (Some (big_integer x)) is = each_none
+      go (Some (string x v)) is = each_none
+      go (Some (regexp x v)) is = each_none
+      go (Some (no_substitution x)) is = each_none
+      go (Some (template_head x)) is = each_none
+      go (Some (template_middle x)) is = each_none
+      go (Some (template_tail x)) is = each_none
+
+  import_each : (a b : Text) → IsUtf8 a → IsUtf8 b → Word (codes "import") a b → (o : Option Lexeme) → Each (λ t c. ModuleItem t a c) (import_by sub o b a)
+  import_each a b u v tok o = go o
+    where
+      other : Each (λ t c. ModuleItem t a c) (if sees (codes "(") b || sees (codes ".") b then inner sub a else import_from b)
+      other = each_if (sees (codes "(") b || sees (codes ".") b) _ _ (λ _. each_weaker (inner_each sub good a u) (λ s c x. module'.statement x)) (λ _. import_from_each a b v tok)
+      go : (o : Option Lexeme) → Each (λ t c. ModuleItem t a c) (import_by sub o b a)
+      go (Some (string x w)) = bare_import_each a b v tok
+      go None = other
+      go (Some (word x)) = other
+      go (Some (sign x)) = other
+      go (Some (private_name x)) = other
+      go (Some (number x)) = other
+      go (Some (big_integer x)) = other
+      go (Some (regexp x w)) = other
+      go (Some (no_substitution x)) = other
+      go (Some (template_head x)) = other
+      go (Some (template_middle x)) = other
+      go (Some (template_tail x)) = other
+
+  item_each : (a : Text) → IsUtf8 a → Each (λ t b. ModuleItem t a b) (module_item sub a)
+  unfolding module_item
+  item_each a u = go (lexeme a) refl
+    where
+      statement : Each (λ t b. ModuleItem t a b) (inner sub a)
+      statement = each_weaker (inner_each sub good a u) (λ s c x. module'.statement x)
+      go : (o : Option Lexeme) → lexeme a ≡ o → Each (λ t b. ModuleItem t a b) (item_by sub o a)
+      go (Some (word x)) is = let t = there a u _ is in
+          each_if (is_text x (codes "import")) _ _ (λ e. import_each a (after a) u t.utf8 (as_word (codes "import") e t.token) (lexeme (after a))) (λ _.
+          each_if (is_text x (codes "export")) _ _ (λ e. export_each a (after a) t.utf8 (as_word (codes "export") e t.token)) (λ _. statement))
+      go None is = statement
+      go (Some (sign x)) is = statement
+      go (Some (private_name x)) is = statement
+      go (Some (number x)) is = statement
+      go (Some (big_integer x)) is = statement
+      go (Some (string x v)) is = statement
+      go (Some (regexp x v)) is = statement
+      go (Some (no_substitution x)) is = statement
+      go (Some (template_head x)) is = statement
+      go (Some (template_middle x)) is = statement
+      go (Some (template_tail x)) is = statement
+
+  items_each : (n : ℕ) (found : List Term) (a : Text) → IsUtf8 a → Each (λ ss b. GivesItems found ss a b) (module_items sub n found a)
+  unfolding module_items
+  items_each zero found a u = each_if (at_end a) _ _ (λ h. each_some found a u (record { new = []; whole = sym (append-nil found); stand = module'.no_more_items; end = is_end a h })) (λ _. each_none)
+  items_each (suc n) found a u = each_if (at_end a) _ _
+      (λ h. each_some found a u (record { new = []; whole = sym (append-nil found); stand = module'.no_more_items; end = is_end a h }))
+      (λ _. each_bind _ (item_each a u) (λ s b v x. each_weaker (items_each n (found ++ s ∷ []) b v) (λ ss c rest. record {
+        new = s ∷ rest.new;
+        whole = rest.whole ∙ append_assoc found (s ∷ []) rest.new;
+        stand = module'.next_item x rest.stand;
+        end = rest.end;
+      })))
+
+  pub body_each : (a : Text) → IsUtf8 a → Each (λ p b. Body p.0 p.1 a) (module_body sub a)
+  unfolding module_body
+  body_each a u =
+      each_bind _ (all_directives (suc (length a)) a u) (λ ds b v x.
+      each_bind _ (items_each (length b) [] b v) (λ ss c w y.
+      each_some _ _ w (whole ds ss b c v x (subst (λ (z : List Term). ModuleItems z b c) (sym y.whole) y.stand) y.end)))
+    where
+      whole : (ds ss : List Term) (b c : Text) → IsUtf8 b → Directing ds a b → ModuleItems ss b c → AtEnd c → Body ds ss a
+      whole ds ss b c v x items end = record { middle = b; rest = c; free = no_string_items items v x.ends; directives = x.stand; items = items; end = end }
