@@ -5,3 +5,4 @@ pub mod Opens
 pub mod TokensEnd
 pub mod Lists
 pub mod Follows
+pub mod Climbs

@@ -1,0 +1,165 @@
+-- An expression that is read, and what goes on with it.
+use Rattle.std.proofs.Common.{◌≡◌, ◌≤◌, ◌<◌, ℕ, zero, suc, Bool, true, false, not, ◌&&◌, ◌||◌, if◌then◌else◌, nat_le, List, [], ◌∷◌, length, Option, Some, None, refl, sym, subst, ◌∙◌, ap, arith, codes}
+use Rattle.std.proofs.lemmas.Bool.{false≢true, and_parts, and_from, leb-true, le-leb, lt-leb}
+use Rattle.js_term.specs.Term.{Text, is_text, Term, Terms, absent, list, node, none, more}
+use Rattle.js_term.specs.declared.kind.Kind.{Kind}
+use Rattle.js_syntax.specs.Tokens.{Lexeme, sign}
+use Rattle.js_syntax.specs.Edges.{Edge, full, loose, edge}
+use Rattle.js_tokens.specs.Next.{lexeme, after}
+use Rattle.js_reading.specs.declared.goal.Goal.{Goal}
+use Rattle.js_reading.specs.declared.goal.Goal.TheVariants as goal
+use Rattle.js_reading.specs.Reading.{Found, closed, Reading, ◌>>=◌, sees, same_line}
+use Rattle.js_reading.specs.Operators.{sign_binds, binds, gives, needs, suits, goes_on_by, goes_on}
+use Rattle.js_reading.specs.Parts.{settled, part}
+use Rattle.js_reading.specs.Expressions.{prefix, extended, climb, at_level}
+use Rattle.js_reading.specs.Read.{step, read}
+use Rattle.js_reading.proofs.TokensThere.{Seen, sees_by}
+use Rattle.js_reading.proofs.Lists.{sees_sign, is_end}
+use Rattle.js_reading.proofs.Follows.{tightness, tightness_by, takes_name, sign_takes, broken, holds, Ends, is_full, stops, end_holds, wider}
+
+-- A tree, its level, and whether it is barred.
+abbrev pub whole : Term → ℕ → Bool → Found
+whole t n barred = record { tree = t; level = n; cover = false; barred = barred }
+
+abbrev pub is_async : Term → Bool
+is_async (node Kind.Identifier (x ∷ []) none) = is_text x (codes "async")
+is_async t = false
+
+-- The name `async` is read before what may be its arguments by a rule of its own.
+unfoldable pub quiet : Term → Text → Bool
+quiet t b = not (is_async t && (same_line b && sees (codes "(") b))
+
+-- Reading from a comes to where this is found and the text b is left.
+pub record Reach (i : Bool) (limit least : ℕ) (f : Found) (a b : Text) : Type 0 where
+  pub turns : ℕ
+  pub enough : length b ≤ turns
+  pub same : at_level (read limit) i least a ≡ climb (read limit) i least turns f b
+
+-- An expression, or what may become one, is read where parts of the depth d may be.
+pub record IsRead (i : Bool) (d : ℕ) (f : Found) (a b : Text) : Type 0 where
+  pub shorter : length b < length a
+  pub high : 1 < f.level
+  pub deep : 0 < d
+  pub ends : Ends f.level (edge f.tree)
+  -- what binds no tighter may follow, and leaves it as it is
+  pub keeps : ℕ
+  pub wide : f.level ≤ suc keeps
+  pub tight : (n : ℕ) → 2 < n → n ≤ 15 → n ≤ f.level → n ≤ keeps
+  pub calls : 19 ≤ f.level → 19 ≤ keeps
+  pub reach : (limit least : ℕ) → least ≤ f.level → d ≤ suc limit → holds i (edge f.tree) keeps b ≡ true → quiet f.tree b ≡ true → Reach i limit least f a b
+
+climb_stops : (i : Bool) (limit n least : ℕ) (f : Found) (b : Text) → goes_on i least f b ≡ false → climb (read limit) i least n f b ≡ Some (f, b)
+unfolding climb
+climb_stops i limit zero least f b h = refl
+climb_stops i limit (suc n) least f b h = rw h
+
+-- it is read, and nothing more
+pub found_read : {i : Bool} {d : ℕ} {f : Found} {a b : Text} (r : IsRead i d f a b) → (limit least : ℕ) → least ≤ f.level → d ≤ limit → holds i (edge f.tree) r.keeps b ≡ true → quiet f.tree b ≡ true → goes_on i least f b ≡ false → read limit (goal.Expression least i) a ≡ Some (f, b)
+unfolding read
+found_read r zero least h fits k q stop = absurd (let s = r.deep in omega arith)
+found_read {i} {d} {f} {a} {b} r (suc limit) least h fits k q stop = let x = r.reach limit least h fits k q in x.same ∙ climb_stops i limit x.turns least f b stop
+
+async_full : (t : Term) → is_async t ≡ true → edge t ≡ full
+async_full (node Kind.Identifier (x ∷ []) none) h = refl
+async_full t h = absurd (false≢true h)
+
+paren_tight : (i : Bool) (b : Text) → sees (codes "(") b ≡ true → tightness i b ≡ 19
+unfolding tightness
+paren_tight i b h = let is = sees_sign (codes "(") b h in rw (sign_takes (codes "(") b is refl, is) refl
+
+full_low : (i : Bool) (k : ℕ) (b : Text) → holds i full k b ≡ true → tightness i b ≤ k
+unfolding holds
+full_low i k b h = leb-true (tightness i b) k h
+
+quiet_cases : (p q r : Bool) → (p ≡ true → r ≡ true → ⊥) → not (p && (q && r)) ≡ true
+quiet_cases true true true h = absurd (h refl refl)
+quiet_cases true true false h = refl
+quiet_cases true false r h = refl
+quiet_cases false q r h = refl
+
+-- what may follow a part in a place is no argument
+pub quiet_holds : (i : Bool) (t : Term) (k : ℕ) (b : Text) → holds i (edge t) k b ≡ true → k ≤ 18 → quiet t b ≡ true
+unfolding quiet
+quiet_holds i t k b h low = quiet_cases (is_async t) (same_line b) (sees (codes "(") b)
+    (λ e s. let below = full_low i k b (subst (λ x. holds i x k b ≡ true) (async_full t e) h) in let at = paren_tight i b s in omega arith)
+
+pub quiet_other : (t : Term) (b : Text) → sees (codes "(") b ≡ false → quiet t b ≡ true
+unfolding quiet
+quiet_other t b h = quiet_cases (is_async t) (same_line b) (sees (codes "(") b) (λ e s. false≢true (sym h ∙ s))
+
+pub quiet_not_async : (t : Term) (b : Text) → is_async t ≡ false → quiet t b ≡ true
+unfolding quiet
+quiet_not_async t b h = quiet_cases (is_async t) (same_line b) (sees (codes "(") b) (λ e s. false≢true (sym h ∙ e))
+
+-- in a place of this level, before what binds less tightly
+pub place_found : {i : Bool} {d : ℕ} {f : Found} {a b : Text} (r : IsRead i d f a b) → (limit least k : ℕ) → least ≤ f.level → k < least → k ≤ 18 → d ≤ limit → holds i (edge f.tree) k b ≡ true → read limit (goal.Expression least i) a ≡ Some (f, b)
+place_found {i} {d} {f} {a} {b} r limit least k h below low fits e =
+    found_read r limit least h fits (wider i (edge f.tree) k r.keeps b (let w = r.wide in omega arith) e) (quiet_holds i f.tree k b e low) (stops i least k f (edge f.tree) b r.ends e below low)
+
+pub place_read : {i : Bool} {d n : ℕ} {e : Term} {barred : Bool} {a b : Text} (r : IsRead i d (whole e n barred) a b) → (limit least k : ℕ) → least ≤ n → k < least → k ≤ 18 → d ≤ limit → holds i (edge e) k b ≡ true → part (read limit) (goal.Expression least i) a ≡ Some (e, b)
+unfolding part
+place_read r limit least k h below low fits e = rw (place_found r limit least k h below low fits e)
+
+-- where any expression of level 2 may stand
+pub right_read : {i : Bool} {d n : ℕ} {e : Term} {barred : Bool} {a b : Text} (r : IsRead i d (whole e n barred) a b) → (limit : ℕ) → d ≤ limit → holds i (edge e) 1 b ≡ true → part (read limit) (goal.Expression 2 i) a ≡ Some (e, b)
+right_read r limit fits e = let h = r.high in place_read r limit 2 1 (omega arith) (omega arith) (omega arith) fits e
+
+-- ---- what goes on with it
+
+and_four : (p q r s : Bool) → p ≡ true → q ≡ true → r ≡ true → s ≡ true → (p && q && r && s) ≡ true
+and_four p q r s h h' h'' h''' = rw (h, h', h'', h''') refl
+
+goes : (i : Bool) (least n : ℕ) (o : Option Lexeme) (line : Bool) → 1 < binds i o → least ≤ gives i n o → needs i o ≤ n → suits n o line ≡ true → goes_on_by i least n o line ≡ true
+goes i least n o line some low high suit = and_four (nat_le 2 (binds i o)) (nat_le least (gives i n o)) (nat_le (needs i o) n) (suits n o line) (le-leb 2 (binds i o) some) (le-leb least (gives i n o) low) (le-leb (needs i o) n high) suit
+
+turn : (i : Bool) (limit n least : ℕ) (f f' : Found) (b b' : Text) → goes_on i least f b ≡ true → extended (read limit) i f b ≡ Some (f', b') → climb (read limit) i least (suc n) f b ≡ climb (read limit) i least n f' b'
+unfolding climb
+turn i limit n least f f' b b' g x = rw (g, x)
+
+going : (i : Bool) (least : ℕ) (f : Found) (b : Text) → goes_on_by i least f.level (lexeme b) (same_line b) ≡ true → goes_on i least f b ≡ true
+unfolding goes_on
+going i least f b h = h
+
+-- What was found goes on to something larger.
+pub grown : {i : Bool} {d : ℕ} {f f' : Found} {a b b' : Text} (limit least : ℕ) (r : IsRead i d f a b) → d ≤ suc limit → length b' < length b → 1 < binds i (lexeme b) → least ≤ gives i f.level (lexeme b) → least ≤ f.level → needs i (lexeme b) ≤ f.level → suits f.level (lexeme b) (same_line b) ≡ true → holds i (edge f.tree) r.keeps b ≡ true → quiet f.tree b ≡ true → extended (read limit) i f b ≡ Some (f', b') → Reach i limit least f' a b'
+grown {i} {d} {f} {f'} {a} {b} {b'} limit least r fits shorter some low low' high suit k q x =
+    let from = r.reach limit least low' fits k q in
+    go from.turns from.enough from.same
+  where
+    go : (n : ℕ) → length b ≤ n → at_level (read limit) i least a ≡ climb (read limit) i least n f b → Reach i limit least f' a b'
+    go zero enough same = absurd (omega arith)
+    go (suc n) enough same = record { turns = n; enough = omega arith; same = same ∙ turn i limit n least f f' b b' (going i least f b (goes i least f.level (lexeme b) (same_line b) some low high suit)) x }
+
+-- ---- what begins one
+
+first_level : (i : Bool) (f : Found) (a : Text) {b : Text} (limit least : ℕ) → least ≤ f.level → prefix (read limit) i least a ≡ Some (f, b) → at_level (read limit) i least a ≡ climb (read limit) i least (length b) f b
+unfolding at_level
+first_level i f a limit least low x = rw (x, le-leb least f.level low)
+
+pub first_reach : {i : Bool} {f : Found} {a b : Text} (limit least : ℕ) → least ≤ f.level → prefix (read limit) i least a ≡ Some (f, b) → Reach i limit least f a b
+first_reach {i} {f} {a} {b} limit least low x = record { turns = length b; enough = omega arith; same = first_level i f a limit least low x }
+
+low_name : (i : Bool) (b : Text) → tightness i b ≤ 21 → takes_name b ≡ false
+unfolding tightness
+low_name i b h = go (takes_name b) refl h
+  where
+    go : (t : Bool) → takes_name b ≡ t → tightness_by t (broken (lexeme b) (same_line b)) i (binds i (lexeme b)) ≤ 21 → takes_name b ≡ false
+    go false e h = e
+    go true e h = absurd (omega arith)
+
+pub no_name : (i : Bool) (b : Text) → holds i full 21 b ≡ true → takes_name b ≡ false
+no_name i b h = low_name i b (full_low i 21 b h)
+
+-- one of the highest level
+pub first_read : {i : Bool} {d : ℕ} {f : Found} {a b : Text} → f.level ≡ 21 → edge f.tree ≡ full → length b < length a → 0 < d → ((limit least : ℕ) → d ≤ suc limit → least ≤ 21 → takes_name b ≡ false → quiet f.tree b ≡ true → prefix (read limit) i least a ≡ Some (f, b)) → IsRead i d f a b
+first_read {i} {d} {f} {a} {b} top is shorter deep reads = record {
+  shorter = shorter;
+  high = rw top (omega arith);
+  deep = deep;
+  ends = is_full is;
+  keeps = 21;
+  wide = rw top (omega arith);
+  tight = λ n h h' h''. omega arith;
+  calls = λ h. omega arith;
+  reach = λ limit least low fits k q. first_reach limit least low (reads limit least fits (rw (sym top) low) (no_name i b (subst (λ x. holds i x 21 b ≡ true) is k)) q);
+}
