@@ -6,3 +6,4 @@ pub mod TokensEnd
 pub mod Lists
 pub mod Follows
 pub mod Climbs
+pub mod Leaves
