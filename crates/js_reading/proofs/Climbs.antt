@@ -1,21 +1,21 @@
 -- An expression that is read, and what goes on with it.
-use Rattle.std.proofs.Common.{◌≡◌, ◌≤◌, ◌<◌, ℕ, zero, suc, Bool, true, false, not, ◌&&◌, ◌||◌, if◌then◌else◌, nat_le, List, [], ◌∷◌, length, Option, Some, None, refl, sym, subst, ◌∙◌, ap, arith, codes}
-use Rattle.std.proofs.lemmas.Bool.{false≢true, and_parts, and_from, leb-true, le-leb, lt-leb}
+use Rattle.std.proofs.Common.{◌≡◌, ◌≤◌, ◌<◌, ℕ, zero, suc, Bool, true, false, not, ◌&&◌, ◌||◌, if◌then◌else◌, nat_le, List, [], ◌∷◌, length, Option, Some, None, refl, sym, subst, ◌⊎◌, inl, inr, ◌∙◌, ap, arith, codes}
+use Rattle.std.proofs.lemmas.Bool.{false≢true, and_parts, and_from, leb-true, le-leb, lt-leb, cases_lt}
 use Rattle.js_term.specs.Term.{Text, is_text, Term, Terms, absent, list, node, none, more}
 use Rattle.js_term.specs.declared.kind.Kind.{Kind}
 use Rattle.js_syntax.specs.Tokens.{Lexeme, sign}
-use Rattle.js_syntax.specs.Edges.{Edge, full, loose, edge}
+use Rattle.js_syntax.specs.Edges.{Edge, full, loose, edge, is_update, is_coalesce_left}
 use Rattle.js_tokens.specs.Next.{lexeme, after}
 use Rattle.js_reading.specs.declared.goal.Goal.{Goal}
 use Rattle.js_reading.specs.declared.goal.Goal.TheVariants as goal
 use Rattle.js_reading.specs.Reading.{Found, closed, Reading, ◌>>=◌, sees, same_line}
-use Rattle.js_reading.specs.Operators.{sign_binds, binds, gives, needs, suits, goes_on_by, goes_on}
+use Rattle.js_reading.specs.Operators.{sign_binds, binds, sign_gives, gives, sign_needs, needs, suits, goes_on_by, goes_on}
 use Rattle.js_reading.specs.Parts.{settled, part}
 use Rattle.js_reading.specs.Expressions.{prefix, extended, climb, at_level}
 use Rattle.js_reading.specs.Read.{step, read}
 use Rattle.js_reading.proofs.TokensThere.{Seen, sees_by}
 use Rattle.js_reading.proofs.Lists.{sees_sign, is_end}
-use Rattle.js_reading.proofs.Follows.{tightness, tightness_by, takes_name, sign_takes, broken, holds, Ends, is_full, stops, end_holds, wider}
+use Rattle.js_reading.proofs.Follows.{tightness, tightness_by, takes_name, sign_takes, broken, holds, Ends, is_full, stops, end_holds, wider, sign_tight, tight_holds}
 
 -- A tree, its level, and whether it is barred.
 abbrev pub whole : Term → ℕ → Bool → Found
@@ -43,8 +43,9 @@ pub record IsRead (i : Bool) (d : ℕ) (f : Found) (a b : Text) : Type 0 where
   pub ends : Ends f.level (edge f.tree)
   -- what binds no tighter may follow, and leaves it as it is
   pub keeps : ℕ
-  pub wide : f.level ≤ suc keeps
-  pub tight : (n : ℕ) → 2 < n → n ≤ 15 → n ≤ f.level → n ≤ keeps
+  pub some : 1 ≤ keeps
+  pub wide : 3 < f.level → f.level ≤ suc keeps
+  pub tight : (n : ℕ) → n ≤ 14 → 3 < f.level → n ≤ f.level → n ≤ keeps
   pub calls : 19 ≤ f.level → 19 ≤ keeps
   pub reach : (limit least : ℕ) → least ≤ f.level → d ≤ suc limit → holds i (edge f.tree) keeps b ≡ true → quiet f.tree b ≡ true → Reach i limit least f a b
 
@@ -92,17 +93,22 @@ unfolding quiet
 quiet_not_async t b h = quiet_cases (is_async t) (same_line b) (sees (codes "(") b) (λ e s. false≢true (sym h ∙ e))
 
 -- in a place of this level, before what binds less tightly
-pub place_found : {i : Bool} {d : ℕ} {f : Found} {a b : Text} (r : IsRead i d f a b) → (limit least k : ℕ) → least ≤ f.level → k < least → k ≤ 18 → d ≤ limit → holds i (edge f.tree) k b ≡ true → read limit (goal.Expression least i) a ≡ Some (f, b)
-place_found {i} {d} {f} {a} {b} r limit least k h below low fits e =
-    found_read r limit least h fits (wider i (edge f.tree) k r.keeps b (let w = r.wide in omega arith) e) (quiet_holds i f.tree k b e low) (stops i least k f (edge f.tree) b r.ends e below low)
+pub place_found : {i : Bool} {d : ℕ} {f : Found} {a b : Text} (r : IsRead i d f a b) → (limit least k : ℕ) → least ≤ f.level → k < least → k ≤ 18 → k ≤ 1 ⊎ 3 < least → d ≤ limit → holds i (edge f.tree) k b ≡ true → read limit (goal.Expression least i) a ≡ Some (f, b)
+place_found {i} {d} {f} {a} {b} r limit least k h below low c fits e =
+    found_read r limit least h fits (wider i (edge f.tree) k r.keeps b (kept c) e) (quiet_holds i f.tree k b e low) (stops i least k f (edge f.tree) b r.ends e below low)
+  where
+    kept : k ≤ 1 ⊎ 3 < least → k ≤ r.keeps
+    kept (inl h') = let s = r.some in omega arith
+    kept (inr h') = let w = r.wide (omega arith) in omega arith
 
-pub place_read : {i : Bool} {d n : ℕ} {e : Term} {barred : Bool} {a b : Text} (r : IsRead i d (whole e n barred) a b) → (limit least k : ℕ) → least ≤ n → k < least → k ≤ 18 → d ≤ limit → holds i (edge e) k b ≡ true → part (read limit) (goal.Expression least i) a ≡ Some (e, b)
+pub place_read : {i : Bool} {d n : ℕ} {e : Term} {barred : Bool} {a b : Text} (r : IsRead i d (whole e n barred) a b) → (limit least k : ℕ) → least ≤ n → k < least → k ≤ 18 → 3 < least → d ≤ limit → holds i (edge e) k b ≡ true → part (read limit) (goal.Expression least i) a ≡ Some (e, b)
 unfolding part
-place_read r limit least k h below low fits e = rw (place_found r limit least k h below low fits e)
+place_read r limit least k h below low c fits e = rw (place_found r limit least k h below low (inr c) fits e)
 
 -- where any expression of level 2 may stand
 pub right_read : {i : Bool} {d n : ℕ} {e : Term} {barred : Bool} {a b : Text} (r : IsRead i d (whole e n barred) a b) → (limit : ℕ) → d ≤ limit → holds i (edge e) 1 b ≡ true → part (read limit) (goal.Expression 2 i) a ≡ Some (e, b)
-right_read r limit fits e = let h = r.high in place_read r limit 2 1 (omega arith) (omega arith) (omega arith) fits e
+unfolding part
+right_read r limit fits e = let h = r.high in rw (place_found r limit 2 1 (omega arith) (omega arith) (omega arith) (inl (omega arith)) fits e)
 
 -- ---- what goes on with it
 
@@ -158,8 +164,50 @@ first_read {i} {d} {f} {a} {b} top is shorter deep reads = record {
   deep = deep;
   ends = is_full is;
   keeps = 21;
-  wide = rw top (omega arith);
+  some = omega arith;
+  wide = λ h. rw top (omega arith);
   tight = λ n h h' h''. omega arith;
   calls = λ h. omega arith;
   reach = λ limit least low fits k q. first_reach limit least low (reads limit least fits (rw (sym top) low) (no_name i b (subst (λ x. holds i x 21 b ≡ true) is k)) q);
 }
+
+-- ---- an expression and an operator behind it
+
+-- The token behind an expression of level m goes on with it to one of level k.
+pub record Joins (i : Bool) (m k t : ℕ) (b : Text) : Type 0 where
+  pub some : 1 < binds i (lexeme b)
+  pub gives_is : gives i m (lexeme b) ≡ k
+  pub needs_low : needs i (lexeme b) ≤ m
+  pub suit : suits m (lexeme b) (same_line b) ≡ true
+  pub tight : tightness i b ≤ t
+
+pub sign_joins : {i : Bool} {m k : ℕ} {s b c : Text} → Seen (sign s) b c → 1 < sign_binds s → sign_gives m s ≡ k → sign_needs s ≤ m → is_update s ≡ false → not (is_text s (codes "??")) || is_coalesce_left m ≡ true → is_text s (codes "=>") ≡ false → Joins i m k (sign_binds s) b
+sign_joins {i} {m} {k} {s} {b} x some gives_is needs_low no_update suit no_arrow = record {
+  some = rw (x.lexeme_is) some;
+  gives_is = rw (x.lexeme_is) gives_is;
+  needs_low = rw (x.lexeme_is) needs_low;
+  suit = rw (x.lexeme_is, no_update, suit) refl;
+  tight = let t = sign_tight i x no_arrow no_update in omega arith;
+}
+
+cases_le : (m n : ℕ) → m ≤ n ⊎ n < m
+cases_le m n = elim (cases_lt n m) as (λ _. m ≤ n ⊎ n < m) [ inl h ↦ inr h | inr h ↦ inl h ]
+
+pub joined_read : {i : Bool} {d d' m k t : ℕ} {l e : Term} {p : Bool} {a b c : Text} (keeps : ℕ) (left : IsRead i d (whole l m p) a b) → Joins i m k t b → quiet l b ≡ true → d ≤ d' → 3 < m → k ≤ m → 1 < k → t ≤ left.keeps → length c < length b → Ends k (edge e) → 1 ≤ keeps → (3 < k → k ≤ suc keeps) → (3 < k → k ≤ 14 → k ≤ keeps) → (19 ≤ k → 19 ≤ keeps) → ((limit : ℕ) → d' ≤ suc limit → holds i (edge e) keeps c ≡ true → extended (read limit) i (whole l m p) b ≡ Some (closed e k, c)) → IsRead i d' (closed e k) a c
+joined_read {i} {d} {d'} {m} {k} {t} {l} {e} {p} {a} {b} {c} keeps left j q deep high low some_k tight shorter ends some wide mid calls extends = record {
+  shorter = let s = left.shorter in omega arith;
+  high = some_k;
+  deep = let s = left.deep in omega arith;
+  ends = ends;
+  keeps = keeps;
+  some = some;
+  wide = wide;
+  tight = λ n h h' h''. reaches n h h' h'' (cases_le k 14);
+  calls = calls;
+  reach = λ limit least below fits holding qt.
+      grown limit least left (omega arith) shorter j.some (let g = j.gives_is in rw g below) (omega arith) j.needs_low j.suit (tight_holds i (edge l) m left.keeps b left.ends high (let jt = j.tight in omega arith)) q (extends limit fits holding);
+}
+  where
+    reaches : (n : ℕ) → n ≤ 14 → 3 < k → n ≤ k → k ≤ 14 ⊎ 14 < k → n ≤ keeps
+    reaches n h h' h'' (inl x) = let y = mid h' x in omega arith
+    reaches n h h' h'' (inr x) = let y = wide h' in omega arith
