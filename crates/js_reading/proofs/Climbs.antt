@@ -15,7 +15,7 @@ use Rattle.js_reading.specs.Expressions.{prefix, extended, climb, at_level}
 use Rattle.js_reading.specs.Read.{step, read}
 use Rattle.js_reading.proofs.TokensThere.{Seen, sees_by}
 use Rattle.js_reading.proofs.Lists.{sees_sign, is_end}
-use Rattle.js_reading.proofs.Follows.{tightness, tightness_by, takes_name, sign_takes, broken, holds, Ends, is_full, stops, end_holds, wider, sign_tight, tight_holds}
+use Rattle.js_reading.proofs.Follows.{tightness, tightness_by, takes_name, sign_takes, broken, holds, Ends, is_full, is_updated, is_loose, stops, end_holds, wider, sign_tight, tight_holds}
 
 -- A tree, its level, and whether it is barred.
 abbrev pub whole : Term → ℕ → Bool → Found
@@ -193,8 +193,8 @@ sign_joins {i} {m} {k} {s} {b} x some gives_is needs_low no_update suit no_arrow
 cases_le : (m n : ℕ) → m ≤ n ⊎ n < m
 cases_le m n = elim (cases_lt n m) as (λ _. m ≤ n ⊎ n < m) [ inl h ↦ inr h | inr h ↦ inl h ]
 
-pub joined_read : {i : Bool} {d d' m k t : ℕ} {l e : Term} {p : Bool} {a b c : Text} (keeps : ℕ) (left : IsRead i d (whole l m p) a b) → Joins i m k t b → quiet l b ≡ true → d ≤ d' → 3 < m → k ≤ m → 1 < k → t ≤ left.keeps → length c < length b → Ends k (edge e) → 1 ≤ keeps → (3 < k → k ≤ suc keeps) → (3 < k → k ≤ 14 → k ≤ keeps) → (19 ≤ k → 19 ≤ keeps) → ((limit : ℕ) → d' ≤ suc limit → holds i (edge e) keeps c ≡ true → extended (read limit) i (whole l m p) b ≡ Some (closed e k, c)) → IsRead i d' (closed e k) a c
-joined_read {i} {d} {d'} {m} {k} {t} {l} {e} {p} {a} {b} {c} keeps left j q deep high low some_k tight shorter ends some wide mid calls extends = record {
+pub joined_read : {i : Bool} {d d' k t : ℕ} {f : Found} {e : Term} {a b c : Text} (keeps : ℕ) (left : IsRead i d f a b) → Joins i f.level k t b → quiet f.tree b ≡ true → d ≤ d' → 3 < f.level → k ≤ f.level → 1 < k → t ≤ left.keeps → length c < length b → Ends k (edge e) → 1 ≤ keeps → (3 < k → k ≤ suc keeps) → (3 < k → k ≤ 14 → k ≤ keeps) → (19 ≤ k → 19 ≤ keeps) → ((limit : ℕ) → d' ≤ suc limit → holds i (edge e) keeps c ≡ true → extended (read limit) i f b ≡ Some (closed e k, c)) → IsRead i d' (closed e k) a c
+joined_read {i} {d} {d'} {k} {t} {f} {e} {a} {b} {c} keeps left j q deep high low some_k tight shorter ends some wide mid calls extends = record {
   shorter = let s = left.shorter in omega arith;
   high = some_k;
   deep = let s = left.deep in omega arith;
@@ -205,9 +205,34 @@ joined_read {i} {d} {d'} {m} {k} {t} {l} {e} {p} {a} {b} {c} keeps left j q deep
   tight = λ n h h' h''. reaches n h h' h'' (cases_le k 14);
   calls = calls;
   reach = λ limit least below fits holding qt.
-      grown limit least left (omega arith) shorter j.some (let g = j.gives_is in rw g below) (omega arith) j.needs_low j.suit (tight_holds i (edge l) m left.keeps b left.ends high (let jt = j.tight in omega arith)) q (extends limit fits holding);
+      grown limit least left (omega arith) shorter j.some (let g = j.gives_is in rw g below) (omega arith) j.needs_low j.suit (tight_holds i (edge f.tree) f.level left.keeps b left.ends high (let jt = j.tight in omega arith)) q (extends limit fits holding);
 }
   where
     reaches : (n : ℕ) → n ≤ 14 → 3 < k → n ≤ k → k ≤ 14 ⊎ 14 < k → n ≤ keeps
     reaches n h h' h'' (inl x) = let y = mid h' x in omega arith
     reaches n h h' h'' (inr x) = let y = wide h' in omega arith
+
+-- one that begins with what binds its parts
+pub lower_read : {i : Bool} {d : ℕ} {f : Found} {a b : Text} (keeps : ℕ) → length b < length a → 1 < f.level → 0 < d → Ends f.level (edge f.tree) → 1 ≤ keeps → (3 < f.level → f.level ≤ suc keeps) → (3 < f.level → f.level ≤ 14 → f.level ≤ keeps) → (19 ≤ f.level → 19 ≤ keeps) → ((limit least : ℕ) → least ≤ f.level → d ≤ suc limit → holds i (edge f.tree) keeps b ≡ true → prefix (read limit) i least a ≡ Some (f, b)) → IsRead i d f a b
+lower_read {i} {d} {f} {a} {b} keeps shorter high deep ends some wide mid calls reads = record {
+  shorter = shorter;
+  high = high;
+  deep = deep;
+  ends = ends;
+  keeps = keeps;
+  some = some;
+  wide = wide;
+  tight = λ n h h' h''. reaches n h h' h'' (cases_le f.level 14);
+  calls = calls;
+  reach = λ limit least low fits k q. first_reach limit least low (reads limit least low fits k);
+}
+  where
+    reaches : (n : ℕ) → n ≤ 14 → 3 < f.level → n ≤ f.level → f.level ≤ 14 ⊎ 14 < f.level → n ≤ keeps
+    reaches n h h' h'' (inl x) = let y = mid h' x in omega arith
+    reaches n h h' h'' (inr x) = let y = wide h' in omega arith
+
+-- the edge of a part at the end
+pub ends_right : {n k : ℕ} {x : Edge} → Ends n x → k ≤ 17 → (n ≤ 3 → k ≤ 3) → Ends k x
+ends_right (is_full e) h h' = is_full e
+ends_right (is_updated e top) h h' = is_updated e h
+ends_right (is_loose e top) h h' = is_loose e (h' top)

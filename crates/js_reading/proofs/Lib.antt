@@ -7,3 +7,4 @@ pub mod Lists
 pub mod Follows
 pub mod Climbs
 pub mod Leaves
+pub mod Operations
