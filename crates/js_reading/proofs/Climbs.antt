@@ -236,3 +236,8 @@ pub ends_right : {n k : ℕ} {x : Edge} → Ends n x → k ≤ 17 → (n ≤ 3 �
 ends_right (is_full e) h h' = is_full e
 ends_right (is_updated e top) h h' = is_updated e h
 ends_right (is_loose e top) h h' = is_loose e (h' top)
+
+pub ends_low : {n : ℕ} {x : Edge} → Ends n x → Ends 2 x
+ends_low (is_full e) = is_full e
+ends_low (is_updated e top) = is_updated e (omega arith)
+ends_low (is_loose e top) = is_loose e (omega arith)

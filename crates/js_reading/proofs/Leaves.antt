@@ -106,7 +106,7 @@ pub boolean_read : {i : Bool} (v : Bool) {a b : Text} → Seen (word (truth v)) 
 boolean_read {i} true tok = leaf_read refl tok.shorter (omega arith) (λ limit least. word_there (read limit) i least tok)
 boolean_read {i} false tok = leaf_read refl tok.shorter (omega arith) (λ limit least. word_there (read limit) i least tok)
 
-literal_there : (sub : Goal → Text → Reading Found) (i : Bool) (least : ℕ) {l : Lexeme} {a b : Text} → Seen l a b → prefix sub i least a ≡ prefix_by sub i least (Some l) a
+pub literal_there : (sub : Goal → Text → Reading Found) (i : Bool) (least : ℕ) {l : Lexeme} {a b : Text} → Seen l a b → prefix sub i least a ≡ prefix_by sub i least (Some l) a
 unfolding prefix
 literal_there sub i least {a = a} tok = ap (λ o. prefix_by sub i least o a) tok.lexeme_is
 

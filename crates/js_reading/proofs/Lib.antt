@@ -8,3 +8,4 @@ pub mod Follows
 pub mod Climbs
 pub mod Leaves
 pub mod Operations
+pub mod Prefixes
