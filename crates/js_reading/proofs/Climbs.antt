@@ -47,7 +47,7 @@ pub record IsRead (i : Bool) (d : ℕ) (f : Found) (a b : Text) : Type 0 where
   pub wide : 3 < f.level → f.level ≤ suc keeps
   pub tight : (n : ℕ) → n ≤ 14 → 3 < f.level → n ≤ f.level → n ≤ keeps
   pub calls : 19 ≤ f.level → 19 ≤ keeps
-  pub reach : (limit least : ℕ) → least ≤ f.level → d ≤ suc limit → holds i (edge f.tree) keeps b ≡ true → quiet f.tree b ≡ true → Reach i limit least f a b
+  pub reach : (limit least : ℕ) → least ≤ f.level → d ≤ suc limit → holds i (edge f.tree) keeps b ≡ true → (least ≤ 2 → quiet f.tree b ≡ true) → Reach i limit least f a b
 
 climb_stops : (i : Bool) (limit n least : ℕ) (f : Found) (b : Text) → goes_on i least f b ≡ false → climb (read limit) i least n f b ≡ Some (f, b)
 unfolding climb
@@ -55,7 +55,7 @@ climb_stops i limit zero least f b h = refl
 climb_stops i limit (suc n) least f b h = rw h
 
 -- it is read, and nothing more
-pub found_read : {i : Bool} {d : ℕ} {f : Found} {a b : Text} (r : IsRead i d f a b) → (limit least : ℕ) → least ≤ f.level → d ≤ limit → holds i (edge f.tree) r.keeps b ≡ true → quiet f.tree b ≡ true → goes_on i least f b ≡ false → read limit (goal.Expression least i) a ≡ Some (f, b)
+pub found_read : {i : Bool} {d : ℕ} {f : Found} {a b : Text} (r : IsRead i d f a b) → (limit least : ℕ) → least ≤ f.level → d ≤ limit → holds i (edge f.tree) r.keeps b ≡ true → (least ≤ 2 → quiet f.tree b ≡ true) → goes_on i least f b ≡ false → read limit (goal.Expression least i) a ≡ Some (f, b)
 unfolding read
 found_read r zero least h fits k q stop = absurd (let s = r.deep in omega arith)
 found_read {i} {d} {f} {a} {b} r (suc limit) least h fits k q stop = let x = r.reach limit least h fits k q in x.same ∙ climb_stops i limit x.turns least f b stop
@@ -95,7 +95,7 @@ quiet_not_async t b h = quiet_cases (is_async t) (same_line b) (sees (codes "(")
 -- in a place of this level, before what binds less tightly
 pub place_found : {i : Bool} {d : ℕ} {f : Found} {a b : Text} (r : IsRead i d f a b) → (limit least k : ℕ) → least ≤ f.level → k < least → k ≤ 18 → k ≤ 1 ⊎ 3 < least → d ≤ limit → holds i (edge f.tree) k b ≡ true → read limit (goal.Expression least i) a ≡ Some (f, b)
 place_found {i} {d} {f} {a} {b} r limit least k h below low c fits e =
-    found_read r limit least h fits (wider i (edge f.tree) k r.keeps b (kept c) e) (quiet_holds i f.tree k b e low) (stops i least k f (edge f.tree) b r.ends e below low)
+    found_read r limit least h fits (wider i (edge f.tree) k r.keeps b (kept c) e) (λ _. quiet_holds i f.tree k b e low) (stops i least k f (edge f.tree) b r.ends e below low)
   where
     kept : k ≤ 1 ⊎ 3 < least → k ≤ r.keeps
     kept (inl h') = let s = r.some in omega arith
@@ -127,7 +127,7 @@ unfolding goes_on
 going i least f b h = h
 
 -- What was found goes on to something larger.
-pub grown : {i : Bool} {d : ℕ} {f f' : Found} {a b b' : Text} (limit least : ℕ) (r : IsRead i d f a b) → d ≤ suc limit → length b' < length b → 1 < binds i (lexeme b) → least ≤ gives i f.level (lexeme b) → least ≤ f.level → needs i (lexeme b) ≤ f.level → suits f.level (lexeme b) (same_line b) ≡ true → holds i (edge f.tree) r.keeps b ≡ true → quiet f.tree b ≡ true → extended (read limit) i f b ≡ Some (f', b') → Reach i limit least f' a b'
+pub grown : {i : Bool} {d : ℕ} {f f' : Found} {a b b' : Text} (limit least : ℕ) (r : IsRead i d f a b) → d ≤ suc limit → length b' < length b → 1 < binds i (lexeme b) → least ≤ gives i f.level (lexeme b) → least ≤ f.level → needs i (lexeme b) ≤ f.level → suits f.level (lexeme b) (same_line b) ≡ true → holds i (edge f.tree) r.keeps b ≡ true → (least ≤ 2 → quiet f.tree b ≡ true) → extended (read limit) i f b ≡ Some (f', b') → Reach i limit least f' a b'
 grown {i} {d} {f} {f'} {a} {b} {b'} limit least r fits shorter some low low' high suit k q x =
     let from = r.reach limit least low' fits k q in
     go from.turns from.enough from.same
@@ -157,7 +157,7 @@ pub no_name : (i : Bool) (b : Text) → holds i full 21 b ≡ true → takes_nam
 no_name i b h = low_name i b (full_low i 21 b h)
 
 -- one of the highest level
-pub first_read : {i : Bool} {d : ℕ} {f : Found} {a b : Text} → f.level ≡ 21 → edge f.tree ≡ full → length b < length a → 0 < d → ((limit least : ℕ) → d ≤ suc limit → least ≤ 21 → takes_name b ≡ false → quiet f.tree b ≡ true → prefix (read limit) i least a ≡ Some (f, b)) → IsRead i d f a b
+pub first_read : {i : Bool} {d : ℕ} {f : Found} {a b : Text} → f.level ≡ 21 → edge f.tree ≡ full → length b < length a → 0 < d → ((limit least : ℕ) → d ≤ suc limit → least ≤ 21 → takes_name b ≡ false → (least ≤ 2 → quiet f.tree b ≡ true) → prefix (read limit) i least a ≡ Some (f, b)) → IsRead i d f a b
 first_read {i} {d} {f} {a} {b} top is shorter deep reads = record {
   shorter = shorter;
   high = rw top (omega arith);
@@ -205,7 +205,7 @@ joined_read {i} {d} {d'} {k} {t} {f} {e} {a} {b} {c} keeps left j q deep high lo
   tight = λ n h h' h''. reaches n h h' h'' (cases_le k 14);
   calls = calls;
   reach = λ limit least below fits holding qt.
-      grown limit least left (omega arith) shorter j.some (let g = j.gives_is in rw g below) (omega arith) j.needs_low j.suit (tight_holds i (edge f.tree) f.level left.keeps b left.ends high (let jt = j.tight in omega arith)) q (extends limit fits holding);
+      grown limit least left (omega arith) shorter j.some (let g = j.gives_is in rw g below) (omega arith) j.needs_low j.suit (tight_holds i (edge f.tree) f.level left.keeps b left.ends high (let jt = j.tight in omega arith)) (λ _. q) (extends limit fits holding);
 }
   where
     reaches : (n : ℕ) → n ≤ 14 → 3 < k → n ≤ k → k ≤ 14 ⊎ 14 < k → n ≤ keeps

@@ -1,6 +1,6 @@
 -- Names and literals that stand in a text are read.
 use Rattle.std.proofs.Common.{◌≡◌, ◌≤◌, ◌<◌, ℕ, zero, suc, Bool, true, false, not, ◌&&◌, ◌||◌, if◌then◌else◌, nat_le, List, [], ◌∷◌, length, Option, Some, None, refl, sym, subst, ◌∙◌, ap, arith, codes}
-use Rattle.std.proofs.lemmas.Bool.{false≢true, or_parts, lt-leb, and_right}
+use Rattle.std.proofs.lemmas.Bool.{false≢true, or_parts, leb-true}
 use Rattle.js_term.specs.Term.{Text, is_text, Term, depth}
 use Rattle.js_term.specs.declared.kind.Kind.{Kind}
 use Rattle.js_term.specs.Lexeme.{is_reserved, is_one_of}
@@ -87,9 +87,13 @@ pub quiet_name : (x b : Text) → quiet (identifier_of x) b ≡ true → is_text
 unfolding quiet
 quiet_name x b h e e' = quiet_calm (is_text x (codes "async")) (same_line b) (sees (codes "(") b) h e e'
 
+calm_by : (p q : Bool) → (p ≡ true → q ≡ false) → (p && q) ≡ false
+calm_by true q h = h refl
+calm_by false q h = refl
+
 pub identifier_read : {i : Bool} {x a b : Text} → is_reserved x ≡ false → Seen (word x) a b → IsRead i 1 (closed (identifier_of x) 21) a b
 identifier_read {i} {x} {b = b} free tok =
-    first_read refl refl tok.shorter (omega arith) (λ limit least fits low h q. name_prefix (read limit) i least free tok h (λ e e'. and_right (nat_le least 2) _ (quiet_name x b q e e')))
+    first_read refl refl tok.shorter (omega arith) (λ limit least fits low h q. name_prefix (read limit) i least free tok h (λ e e'. calm_by (nat_le least 2) (sees (codes "(") b) (λ low. quiet_name x b (q (leb-true least 2 low)) e e')))
 
 -- ---- literals
 

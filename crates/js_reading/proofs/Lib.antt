@@ -9,3 +9,4 @@ pub mod Climbs
 pub mod Leaves
 pub mod Operations
 pub mod Prefixes
+pub mod Listings
