@@ -146,5 +146,76 @@ comma_found x tok = record { found = x.found; comma = true; trees_are = x.trees_
 
 -- ---- items that are expressions, and spreads
 
-item_at : ℕ → Text → Reading Found
-item_at limit a = item (read limit) a
+-- what stands between parentheses, as an argument or not yet
+abbrev pub item_of : Bool → ℕ → Text → Reading Found
+item_of true limit a = argument (read limit) a
+item_of false limit a = item (read limit) a
+
+abbrev pub element_of : ℕ → Text → Reading Found
+element_of limit a = element (read limit) a
+
+item_there : (w : Bool) (limit : ℕ) (f : Found) (a : Text) {b : Text} → f.cover ≡ false → item (read limit) a ≡ Some (f, b) → item_of w limit a ≡ Some (f, b)
+unfolding argument
+item_there true limit f a whole h = rw (h, whole)
+item_there false limit f a whole h = h
+
+expression_item : (limit : ℕ) (f : Found) (a : Text) {b : Text} → begins (lexeme a) ≡ true → read limit (goal.Expression 2 true) a ≡ Some (f, b) → item (read limit) a ≡ Some (f, b)
+unfolding item
+expression_item limit f a starts h = rw (no_sign_there (codes "...") a starts refl, h)
+
+pub found_expression : {i : Bool} {d n : ℕ} {e : Term} {p : Bool} {a b : Text} → IsRead i d (whole e n p) a b → (limit : ℕ) → d ≤ limit → is_end (lexeme b) ≡ true → read limit (goal.Expression 2 i) a ≡ Some (whole e n p, b)
+found_expression {i} {e = e} {b = b} r limit fits h = let y = r.high in place_found r limit 2 1 (omega arith) (omega arith) (omega arith) (inl (omega arith)) fits (end_holds i (edge e) 1 b h)
+
+stands_reads : (w : Bool) {n : ℕ} {e : Term} {p : Bool} {a b : Text} → IsRead true (depth e) (whole e n p) a b → begins (lexeme a) ≡ true → (limit : ℕ) → depth e ≤ limit → ReadsItem false false (item_of w limit) (whole e n p) a b
+stands_reads w {n} {e} {p} {a} r starts limit fits = some_item false r.shorter (begins_no_closer a starts) (λ h. item_there w limit (whole e n p) a refl (expression_item limit (whole e n p) a starts (found_expression r limit fits h))) (λ h. absurd (false≢true h))
+
+pub stands_item : (w : Bool) {n : ℕ} {e : Term} {a b : Text} → StandsRead true n e a b → begins (lexeme a) ≡ true → FoundItem (item_of w) false e a b
+stands_item w {n} {e} x starts = record { found = whole e n x.barred; tree_is = refl; cover_is = refl; utf8 = x.utf8; reads = λ limit fits. stands_reads w x.read starts limit fits }
+
+spread_there : (limit : ℕ) (e : Term) (n : ℕ) (p : Bool) {a m b : Text} → Seen (sign (codes "...")) a m → read limit (goal.Expression 2 true) m ≡ Some (whole e n p, b) → item (read limit) a ≡ Some (whole (of_part Kind.SpreadElement e) 0 p, b)
+unfolding item spread
+spread_there limit e n p tok h = rw (sees_by (codes "...") tok, tok.after_is, h)
+
+pub spread_reads : {n : ℕ} {e : Term} {p : Bool} {a m b : Text} → Seen (sign (codes "...")) a m → IsRead true (depth e) (whole e n p) m b → (limit : ℕ) → depth e ≤ limit → is_end (lexeme b) ≡ true → item (read limit) a ≡ Some (whole (of_part Kind.SpreadElement e) 0 p, b)
+spread_reads {n} {e} {p} tok r limit fits h = spread_there limit e n p tok (found_expression r limit fits h)
+
+spread_closes : {a m : Text} → Seen (sign (codes "...")) a m → is_closing (lexeme a) ≡ false
+spread_closes tok = ap is_closing tok.lexeme_is
+
+pub spread_item : (w : Bool) {n : ℕ} {e : Term} {a m b : Text} → Seen (sign (codes "...")) a m → StandsRead true n e m b → FoundItem (item_of w) false (of_part Kind.SpreadElement e) a b
+spread_item w {n} {e} {a} tok x = let r = x.read in record {
+  found = whole (of_part Kind.SpreadElement e) 0 x.barred;
+  tree_is = refl;
+  cover_is = refl;
+  utf8 = x.utf8;
+  reads = λ limit fits. some_item false (let s1 = tok.shorter in let s2 = r.shorter in omega arith) (spread_closes tok) (λ h. item_there w limit (whole (of_part Kind.SpreadElement e) 0 x.barred) a refl (spread_reads tok r limit (omega arith) h)) (λ h. absurd (false≢true h));
+}
+
+element_there : (limit : ℕ) (a : Text) {f : Found} {b : Text} → sees (codes ",") a ≡ false → item (read limit) a ≡ Some (f, b) → element (read limit) a ≡ Some (f, b)
+unfolding element
+element_there limit a h h' = rw (h, h')
+
+pub stands_element : {n : ℕ} {e : Term} {a b : Text} → StandsRead true n e a b → begins (lexeme a) ≡ true → FoundItem element_of false e a b
+stands_element {n} {e} {a} x starts = let r = x.read in record {
+  found = whole e n x.barred;
+  tree_is = refl;
+  cover_is = refl;
+  utf8 = x.utf8;
+  reads = λ limit fits. some_item false r.shorter (begins_no_closer a starts) (λ h. element_there limit a (no_sign_there (codes ",") a starts refl) (expression_item limit (whole e n x.barred) a starts (found_expression r limit fits h))) (λ h. absurd (false≢true h));
+}
+
+pub spread_element : {n : ℕ} {e : Term} {a m b : Text} → Seen (sign (codes "...")) a m → StandsRead true n e m b → FoundItem element_of false (of_part Kind.SpreadElement e) a b
+spread_element {n} {e} {a} tok x = let r = x.read in record {
+  found = whole (of_part Kind.SpreadElement e) 0 x.barred;
+  tree_is = refl;
+  cover_is = refl;
+  utf8 = x.utf8;
+  reads = λ limit fits. some_item false (let s1 = tok.shorter in let s2 = r.shorter in omega arith) (spread_closes tok) (λ h. element_there limit a (sees_by (codes ",") tok) (spread_reads tok r limit (omega arith) h)) (λ h. absurd (false≢true h));
+}
+
+hole_there : (limit : ℕ) (a : Text) → sees (codes ",") a ≡ true → element (read limit) a ≡ Some (closed absent 0, a)
+unfolding element
+hole_there limit a h = rw h
+
+pub hole_element : {a : Text} → IsUtf8 a → FoundItem element_of true absent a a
+hole_element {a} u = record { found = closed absent 0; tree_is = refl; cover_is = refl; utf8 = u; reads = λ limit fits. hole_item (λ h. hole_there limit a h) }
