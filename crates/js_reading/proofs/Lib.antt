@@ -20,3 +20,8 @@ pub mod Opens
 pub mod TokensEnd
 pub mod Lists
 pub mod Follows
+pub mod Climbs
+pub mod Leaves
+pub mod Operations
+pub mod Prefixes
+pub mod Listings

@@ -10,10 +10,11 @@ use Rattle.js_syntax.specs.Edges.{Edge, full, updated, loose, exports, accessor,
 use Rattle.js_syntax.specs.Spelling as spell
 use Rattle.js_syntax.specs.Spelling.{Semicolon, DoEnd}
 use Rattle.js_syntax.proofs.Fronts.{among}
-use Rattle.js_tokens.specs.Gaps.{gap, is_same_line}
+use Rattle.js_tokens.specs.Gaps.{Behind, gap, is_same_line, is_at_end}
 use Rattle.js_tokens.specs.Next.{lexeme, after, lexeme_in, cut, cut_behind, next}
 use Rattle.js_tokens.proofs.GapLaws.{front_there}
 use Rattle.js_reading.specs.Reading.{Reading, is_sign, sees, same_line, at_end, goes_on_at, left_out, semicolon, do_end_by, do_end}
+use Rattle.js_reading.proofs.Opens.{begins}
 use Rattle.js_reading.proofs.TokensThere.{Seen, see, see_sign, sees_by, at_its_end, slash_there, is_slash_sign, tail_there}
 
 pub end_lexeme : (a : Text) → AtEnd a → lexeme a ≡ None
@@ -23,6 +24,33 @@ end_lexeme a end = ap (λ g. lexeme_in (cut_behind g)) (front_there end.front)
 pub no_lexeme : (s a : Text) → lexeme a ≡ None → sees s a ≡ false
 unfolding sees
 no_lexeme s a is = ap (is_sign s) is
+
+end_gap : (g : Behind) → is_at_end g ≡ true → lexeme_in (cut_behind g) ≡ None
+unfolding cut
+end_gap None h = absurd (false≢true h)
+end_gap (Some (line, [])) h = refl
+end_gap (Some (line, c ∷ s)) h = absurd (false≢true h)
+
+pub end_none : (a : Text) → at_end a ≡ true → lexeme a ≡ None
+unfolding lexeme next at_end
+end_none a h = end_gap (gap false a) h
+
+some_none : (l : Lexeme) → ◌≡◌ {A = Option Lexeme} None (Some l) → ⊥
+some_none l h = cc
+
+pub seen_not_end : {l : Lexeme} {a b : Text} → Seen l a b → at_end a ≡ false
+seen_not_end {l} {a} x = go (at_end a) refl
+  where
+    go : (t : Bool) → at_end a ≡ t → at_end a ≡ false
+    go false e = e
+    go true e = absurd (some_none l (sym (end_none a e) ∙ x.lexeme_is))
+
+pub not_at_end : (a : Text) → begins (lexeme a) ≡ true → at_end a ≡ false
+not_at_end a h = go (at_end a) refl
+  where
+    go : (t : Bool) → at_end a ≡ t → at_end a ≡ false
+    go false e = e
+    go true e = absurd (false≢true (ap begins (sym (end_none a e)) ∙ h))
 
 pub lexeme_sees : (s a : Text) (o : Option Lexeme) → lexeme a ≡ o → sees s a ≡ is_sign s o
 unfolding sees

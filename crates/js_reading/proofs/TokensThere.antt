@@ -9,12 +9,13 @@ use Rattle.js_syntax.specs.Tokens.{Lexeme, word, private_name, number, big_integ
 use Rattle.js_syntax.specs.Tokens as token
 use Rattle.js_tokens.specs.Gaps.{gap, is_same_line}
 use Rattle.js_tokens.specs.Looks.{is_div_lexeme, is_regexp_lexeme, is_tail_lexeme}
-use Rattle.js_tokens.specs.Next.{Cut, cut, cut_behind, next, lexeme, after, lexeme_in, rest_in, punctuator_cut}
+use Rattle.js_tokens.specs.Next.{Cut, cut, cut_behind, next, next_regexp, next_tail, lexeme, after, lexeme_in, rest_in, punctuator_cut}
 use Rattle.js_tokens.proofs.TokenLaws.{token_there}
+use Rattle.js_tokens.proofs.GoalLaws.{regexp_token_there, tail_token_there}
 use Rattle.js_tokens.proofs.Shorter.{token_shorter}
 use Rattle.js_tokens.proofs.GapLaws.{front_there, same_line_there, at_end_there}
 use Rattle.js_reading.specs.Reading.{Reading, ◌>>=◌, is_sign, is_word, sees, sees_word, same_line, at_end, expect, expect_word, name, unreserved, binding, string_token}
-use Rattle.js_reading.proofs.Utf8.{next_utf8}
+use Rattle.js_reading.proofs.Utf8.{next_utf8, regexp_utf8, tail_utf8}
 
 -- The token at the front, and what it leaves.
 pub record Seen (l : Lexeme) (a b : Text) : Type 0 where
@@ -109,6 +110,30 @@ tail_there {l} {a} {b} tok goal = ap (λ g. lexeme_in (cut_behind g)) (front_the
     go (is_no_substitution s h) e = absurd (false≢true e)
     go (is_head s h) e = absurd (false≢true e)
     go (is_punctuator h opens longest) e = absurd (false≢true e)
+
+-- a regular expression at the front
+pub record SeenRegexp (pattern flags a b : Text) : Type 0 where
+  pub slash : is_slash_sign (lexeme a) ≡ true
+  pub regexp_is : next_regexp a ≡ Some (regexp pattern flags, b)
+  pub shorter : length b < length a
+  pub utf8 : IsUtf8 b
+
+pub see_regexp : {pattern flags a b : Text} → Token a (regexp pattern flags) b → IsUtf8 a → SeenRegexp pattern flags a b
+see_regexp {pattern} {flags} {a} {b} tok u =
+    let is = regexp_token_there tok u refl in
+    record { slash = slash_there tok; regexp_is = is; shorter = token_shorter tok; utf8 = regexp_utf8 a u (regexp pattern flags) b is }
+
+-- the rest of a template behind a substitution
+pub record SeenTail (l : Lexeme) (a b : Text) : Type 0 where
+  pub lexeme_is : lexeme a ≡ Some (sign (codes "}"))
+  pub tail_is : next_tail a ≡ Some (l, b)
+  pub shorter : length b < length a
+  pub utf8 : IsUtf8 b
+
+pub see_tail : {l : Lexeme} {a b : Text} → Token a l b → IsUtf8 a → is_tail_lexeme l ≡ true → SeenTail l a b
+see_tail {l} {a} {b} tok u goal =
+    let is = tail_token_there tok u goal in
+    record { lexeme_is = tail_there tok goal; tail_is = is; shorter = token_shorter tok; utf8 = tail_utf8 a u l b is }
 
 -- ---- what reads it
 
