@@ -26,3 +26,4 @@ pub mod Operations
 pub mod Prefixes
 pub mod Listings
 pub mod Claims
+pub mod Derived
