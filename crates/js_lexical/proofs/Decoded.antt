@@ -126,7 +126,7 @@ unit quote a (b ∷ c ∷ d ∷ s) = go (hex_four a b c d) refl
     go None e = refl
     go (Some n) e = let few = hex_four_few a b c d n e in value n (is_lead_surrogate n) (omega arith) refl
 
-too_large : (quote n : ℕ) (x : Text) → 0x10FFFF < n → is_some (braced quote true n x) ≡ false
+pub too_large : (quote n : ℕ) (x : Text) → 0x10FFFF < n → is_some (braced quote true n x) ≡ false
 too_large quote n [] h = refl
 too_large quote n (c ∷ s) h = go (nat_eq c 125) (is_hex c) (is_lead_surrogate n) (is_trail_surrogate n) (nat_lt 0x10FFFF n) refl (too_large quote (n * 16 + hex_value c) s (omega arith))
   where

@@ -1,4 +1,4 @@
-mod Decoded
+pub mod Decoded
 mod Identifiers
 mod Parts
 mod Sound

@@ -40,7 +40,7 @@ impl Radix {
 }
 
 /// Whether a digit is next.
-pub(crate) fn begins_digit(bytes: &[u8]) -> bool
+pub fn begins_digit(bytes: &[u8]) -> bool
     ensures { result ≡ spec.first_passes is_digit bytes.now }
 {
     match bytes {

@@ -6,9 +6,9 @@ ghost use Rattle.js_lexical.specs.Cursors as cursor;
 
 /// A number, and the text behind it.
 #[derive(Clone, Copy)]
-pub(crate) struct Number<'a> {
-    pub(crate) value: u32,
-    pub(crate) rest: &'a [u8],
+pub struct Number<'a> {
+    pub value: u32,
+    pub rest: &'a [u8],
 }
 
 fn digit_value(byte: u8) -> Option<u32>
@@ -31,7 +31,7 @@ fn hex_two(high: u8, low: u8) -> Option<u32>
 }
 
 /// The two digits at the front.
-pub(crate) fn two_digits(bytes: &[u8]) -> Option<Number<'_>>
+pub fn two_digits(bytes: &[u8]) -> Option<Number<'_>>
     ensures number { cursor.number_in result ≡ cursor.two_digits bytes.now }
     ensures few { IfSome result (λ number. number.value < 256) }
     ensures within { IfSome result (λ number. length number.rest.now ≤ length bytes.now) }
@@ -46,7 +46,7 @@ pub(crate) fn two_digits(bytes: &[u8]) -> Option<Number<'_>>
 }
 
 /// The four digits at the front.
-pub(crate) fn four_digits(bytes: &[u8]) -> Option<Number<'_>>
+pub fn four_digits(bytes: &[u8]) -> Option<Number<'_>>
     ensures number { cursor.number_in result ≡ cursor.four_digits bytes.now }
     ensures few { IfSome result (λ number. number.value < 65536) }
     ensures within { IfSome result (λ number. length number.rest.now ≤ length bytes.now) }
@@ -61,7 +61,7 @@ pub(crate) fn four_digits(bytes: &[u8]) -> Option<Number<'_>>
 }
 
 /// The digits up to a `}`, where they are worth no more than 0x10FFFF.
-pub(crate) fn braced_digits(mut bytes: &[u8]) -> Option<Number<'_>>
+pub fn braced_digits(mut bytes: &[u8]) -> Option<Number<'_>>
     ensures number { cursor.number_in result ≡ cursor.braced_digits false 0 bytes.entry.now }
     ensures few { IfSome result (λ number. number.value ≤ 0x10FFFF) }
     ensures within { IfSome result (λ number. length number.rest.now ≤ length bytes.entry.now) }

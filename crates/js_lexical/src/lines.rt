@@ -4,7 +4,7 @@ ghost use Rattle.std.specs.Prelude.{◌≡◌};
 ghost use Rattle.js_syntax.specs.Lexical as spec;
 
 /// Whether a line end begins the text: LF, CR, U+2028 or U+2029.
-pub(crate) fn begins_line_end(bytes: &[u8]) -> bool
+pub fn begins_line_end(bytes: &[u8]) -> bool
     ensures { result ≡ spec.begins_any spec.line_ends bytes.now }
 {
     match bytes {

@@ -11,13 +11,13 @@ use crate::digits::begins_digit;
 use crate::hex::{braced_digits, four_digits, two_digits};
 use crate::lines::begins_line_end;
 
-fn is_lead_surrogate(unit: u32) -> bool
+pub fn is_lead_surrogate(unit: u32) -> bool
     ensures { result ≡ spec.is_lead_surrogate unit }
 {
     0xD800 <= unit && unit <= 0xDBFF
 }
 
-fn is_trail_surrogate(unit: u32) -> bool
+pub fn is_trail_surrogate(unit: u32) -> bool
     ensures { result ≡ spec.is_trail_surrogate unit }
 {
     0xDC00 <= unit && unit <= 0xDFFF

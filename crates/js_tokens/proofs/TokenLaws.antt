@@ -22,7 +22,7 @@ space_utf8 : (w : Text) → is_one_of w white_space ≡ true → IsUtf8 w
 unfolding is_utf8 chars lib.Utf8.encode
 space_utf8 w e = IsUtf8-from_is_utf8 w (among is_utf8 white_space w refl e)
 
-end_utf8 : (w : Text) → is_one_of w line_ends ≡ true → IsUtf8 w
+pub end_utf8 : (w : Text) → is_one_of w line_ends ≡ true → IsUtf8 w
 unfolding is_utf8 chars lib.Utf8.encode
 end_utf8 w e = IsUtf8-from_is_utf8 w (among is_utf8 line_ends w refl e)
 
@@ -38,7 +38,7 @@ cut_utf8 x a u h =
     let boundary : IsCharBoundary (x ++ a) (length x) = (within, λ k l. rw at (h (rw at at l))) in
     subst IsUtf8 (drop-append_seam x a) (IsUtf8-drop (x ++ a) (length x) u boundary)
 
-end_opens : (a : Text) → ends_line a ≡ true → 128 ≤ get_or a 0 0 → 192 ≤ get_or a 0 0
+pub end_opens : (a : Text) → ends_line a ≡ true → 128 ≤ get_or a 0 0 → 192 ≤ get_or a 0 0
 end_opens [] e h = absurd (omega arith)
 end_opens (c ∷ s) e h =
     let r = begins_any_split line_ends (c ∷ s) e in
