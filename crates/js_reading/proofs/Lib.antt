@@ -10,3 +10,4 @@ pub mod Leaves
 pub mod Operations
 pub mod Prefixes
 pub mod Listings
+pub mod Links
