@@ -1,5 +1,20 @@
 pub mod Utf8
 pub mod Each
+pub mod Chains
+pub mod Covers
+pub mod Patterns
+pub mod ArrowParameters
+pub mod SoundParts
+pub mod Directing
+pub mod SoundFunctions
+pub mod SoundLiterals
+pub mod Operating
+pub mod SoundMembers
+pub mod SoundExpressions
+pub mod SoundClimb
+pub mod SoundStatements
+pub mod SoundModules
+pub mod Sound
 pub mod TokensThere
 pub mod Opens
 pub mod TokensEnd
@@ -11,3 +26,4 @@ pub mod Operations
 pub mod Prefixes
 pub mod Listings
 pub mod Links
+pub mod Claims

@@ -75,6 +75,14 @@ logical_right op = if is_text op (codes "||") then 6 else 7
 abbrev pub logical_level : Text → ℕ
 logical_level op = if is_text op (codes "??") then 4 else if is_text op (codes "||") then 5 else 6
 
+abbrev pub literal_word : Text → Option Term
+literal_word x =
+    if is_text x (codes "this") then Some (alone Kind.ThisExpression)
+    else if is_text x (codes "null") then Some (alone Kind.NullLiteral)
+    else if is_text x (codes "true") then Some (boolean_of true)
+    else if is_text x (codes "false") then Some (boolean_of false)
+    else None
+
 abbrev pub is_link : Option Lexeme → Bool
 is_link (Some (sign s)) = is_one_of s (map codes ("?." ∷ "." ∷ "[" ∷ "(" ∷ []))
 is_link o = false
@@ -239,14 +247,6 @@ module _ (sub : Goal → Text → Reading Found) where
   chain o a = optional_link o a >>= λ e b. links (length b) e b >>= λ e c. Some (closed (of_part Kind.ChainExpression e) 18, c)
 
   -- ---- what begins an expression
-
-  abbrev pub literal_word : Text → Option Term
-  literal_word x =
-      if is_text x (codes "this") then Some (alone Kind.ThisExpression)
-      else if is_text x (codes "null") then Some (alone Kind.NullLiteral)
-      else if is_text x (codes "true") then Some (boolean_of true)
-      else if is_text x (codes "false") then Some (boolean_of false)
-      else None
 
   abbrev pub word_by : Bool → Text → Option Term → Text → Reading Found
   word_by i x (Some t) b = Some (closed t 21, b)

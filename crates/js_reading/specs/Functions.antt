@@ -37,6 +37,17 @@ no_rest ps comma = record { items = ps; rest = absent; comma = comma }
 abbrev pub rest_last : List Term → Term → Parameters
 rest_last ps p = record { items = ps; rest = of_part Kind.FormalParameterRest (of_part Kind.BindingRestElement p); comma = false }
 
+-- ---- directives (11.2.1)
+
+-- a string token that a semicolon ends, and what is left behind it
+abbrev pub directive_by : Option Lexeme → Text → Reading Text
+directive_by (Some (string raw v)) b = semicolon full b >>= λ _ c. Some (raw, c)
+directive_by o b = None
+
+unfoldable pub directives : ℕ → List Term → Text → Reading (List Term)
+directives zero found a = None
+directives (suc n) found a = either (directive_by (lexeme a) (after a)) (Some (found, a)) (λ raw b. directives n (found ++ of_text Kind.Directive raw ∷ []) b)
+
 module _ (sub : Goal → Text → Reading Found) where
   unfoldable pub bound : Text → Reading Term
   bound a = sub goal.Pattern a >>= λ f b. Some (f.tree, b)
@@ -67,15 +78,6 @@ module _ (sub : Goal → Text → Reading Found) where
 
   -- ---- bodies (15.2.1)
 
-  -- a string token that a semicolon ends, and what is left behind it
-  abbrev pub directive_by : Option Lexeme → Text → Reading Text
-  directive_by (Some (string raw v)) b = semicolon full b >>= λ _ c. Some (raw, c)
-  directive_by o b = None
-
-  unfoldable pub directives : ℕ → List Term → Text → Reading (List Term)
-  directives zero found a = Some (found, a)
-  directives (suc n) found a = either (directive_by (lexeme a) (after a)) (Some (found, a)) (λ raw b. directives n (found ++ of_text Kind.Directive raw ∷ []) b)
-
   unfoldable pub statements : ℕ → List Term → Text → Reading (List Term)
   statements zero found a = None
   statements (suc n) found a = if sees (codes "}") a then Some (found, a) else (sub goal.Statement a >>= λ f b. statements n (found ++ f.tree ∷ []) b)
@@ -85,7 +87,7 @@ module _ (sub : Goal → Text → Reading Found) where
   enclosed a = statements (length a) [] a >>= λ ss b. expect (codes "}") b >>= λ _ c. Some (ss, c)
 
   unfoldable pub body : Text → Reading Term
-  body a = expect (codes "{") a >>= λ _ b. directives (length b) [] b >>= λ ds c. enclosed c >>= λ ss d. Some (body_node ds ss, d)
+  body a = expect (codes "{") a >>= λ _ b. directives (suc (length b)) [] b >>= λ ds c. enclosed c >>= λ ss d. Some (body_node ds ss, d)
 
   -- behind `function`
   unfoldable pub function : Kind → Text → Text → Reading Term

@@ -6,4 +6,5 @@ pub mod Functions
 pub mod Literals
 pub mod Expressions
 pub mod Statements
+pub mod Modules
 pub mod Read

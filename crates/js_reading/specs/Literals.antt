@@ -61,6 +61,11 @@ default_found x e = record { tree = pair_of Kind.AssignmentTargetProperty false 
 abbrev pub shorthand_found : Text → Found
 shorthand_found x = closed (property (codes "init") false true false (name_of x) (identifier_of x)) 0
 
+-- the kind of a method, which is the constructor or another one
+abbrev pub method_kind : Bool → Text
+method_kind true = codes "constructor"
+method_kind false = codes "method"
+
 module _ (sub : Goal → Text → Reading Found) where
   -- behind `[`
   unfoldable pub array : Text → Reading Found
@@ -123,10 +128,6 @@ module _ (sub : Goal → Text → Reading Found) where
   element_function kind static t async s a =
       member_key sub a >>= λ k b. method_function sub t async s b >>= λ f c.
       if is_constructor static k.0 k.1 then None else Some (method_node kind k.0 static k.1 f, c)
-
-  abbrev pub method_kind : Bool → Text
-  method_kind true = codes "constructor"
-  method_kind false = codes "method"
 
   unfoldable pub field : Text → Key → Text → Reading Term
   field static k a =

@@ -37,6 +37,12 @@ is_allowed sound raw = not sound || has_sound_escapes raw
 abbrev pub Quasis : Type 0
 Quasis = List Term × List Term
 
+-- what stands behind a substitution: whether another one follows, and the text up to there
+abbrev pub quasi_by : Bool → Cut → Reading (Bool × Text)
+quasi_by sound (Some (template_tail raw, b)) = if is_allowed sound raw then Some ((false, raw), b) else None
+quasi_by sound (Some (template_middle raw, b)) = if is_allowed sound raw then Some ((true, raw), b) else None
+quasi_by sound o = None
+
 module _ (sub : Goal → Text → Reading Found) where
   unfoldable pub part : Goal → Text → Reading Term
   part g a = sub g a >>= settled
@@ -89,12 +95,6 @@ module _ (sub : Goal → Text → Reading Found) where
   member_key a = member_key_by (lexeme a) (after a)
 
   -- ---- templates (13.2.8)
-
-  -- what stands behind a substitution: whether another one follows, and the text up to there
-  abbrev pub quasi_by : Bool → Cut → Reading (Bool × Text)
-  quasi_by sound (Some (template_tail raw, b)) = if is_allowed sound raw then Some ((false, raw), b) else None
-  quasi_by sound (Some (template_middle raw, b)) = if is_allowed sound raw then Some ((true, raw), b) else None
-  quasi_by sound o = None
 
   unfoldable pub template_rest : Bool → ℕ → Quasis → Text → Reading Quasis
   template_rest sound zero found a = None

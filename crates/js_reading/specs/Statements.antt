@@ -39,22 +39,26 @@ abbrev pub left_by : Option Term → Text → Reading Head
 left_by None b = None
 left_by (Some t) b = Some (repeated t, b)
 
+-- a target as a pattern
+abbrev pub tree_at : Option Term → Text → Reading Term
+tree_at None b = None
+tree_at (Some t) b = Some (t, b)
+
+abbrev pub bound_in : Option Term → Text → Reading Term
+bound_in None b = None
+bound_in (Some t) b = tree_at (pattern_of false t) b
+
+unfoldable pub destructured : Found → Text → Reading Term
+destructured f b = bound_in (target_in f) b
+
+abbrev pub is_named_tree : Term → Text → Reading Term
+is_named_tree t b = if is_unnamed t then None else Some (t, b)
+
 unfoldable pub sees_each : Text → Bool
 sees_each a = sees_word (codes "in") a || sees_word (codes "of") a
 
 module _ (sub : Goal → Text → Reading Found) where
   -- a pattern that binds names (14.3.3)
-  abbrev pub bound_in : Option Term → Text → Reading Term
-  bound_in None b = None
-  bound_in (Some t) b = pattern_by (pattern_of false t)
-    where
-      pattern_by : Option Term → Reading Term
-      pattern_by None = None
-      pattern_by (Some p) = Some (p, b)
-
-  unfoldable pub destructured : Found → Text → Reading Term
-  destructured f b = bound_in (target_in f) b
-
   unfoldable pub pattern : Text → Reading Term
   pattern a =
       if sees (codes "{") a then (object sub (after a) >>= destructured)
@@ -86,9 +90,6 @@ module _ (sub : Goal → Text → Reading Found) where
   -- behind the word
   unfoldable pub variables : Text → Text → Reading Term
   variables kind a = declarators true a >>= λ ds b. semicolon (declared_edge ds) b >>= λ _ c. Some (variables_of kind ds, c)
-
-  abbrev pub is_named_tree : Term → Text → Reading Term
-  is_named_tree t b = if is_unnamed t then None else Some (t, b)
 
   -- behind `function`, behind `class`
   unfoldable pub function_declaration : Text → Text → Reading Term
@@ -163,14 +164,12 @@ module _ (sub : Goal → Text → Reading Found) where
   unfoldable pub found_head : Found → Text → Reading Head
   found_head f b = if sees_each b then left_by (target_in f) b else settled f b >>= more_expressions
 
+  abbrev pub head_by : Option Lexeme → Text → Reading Head
+  head_by (Some (word x)) a = if is_declaring x then declared_head x (after a) else sub (goal.Expression 2 false) a >>= found_head
+  head_by o a = sub (goal.Expression 2 false) a >>= found_head
+
   unfoldable pub head : Text → Reading Head
-  head a =
-      if sees (codes ";") a then Some (initial absent, a)
-      else word_head (lexeme a)
-    where
-      word_head : Option Lexeme → Reading Head
-      word_head (Some (word x)) = if is_declaring x then declared_head x (after a) else sub (goal.Expression 2 false) a >>= found_head
-      word_head o = sub (goal.Expression 2 false) a >>= found_head
+  head a = if sees (codes ";") a then Some (initial absent, a) else head_by (lexeme a) a
 
   -- an expression, or nothing before this sign
   unfoldable pub perhaps : Text → Text → Reading Term

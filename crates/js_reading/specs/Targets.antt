@@ -125,8 +125,8 @@ abbrev mutual
 -- a pattern with a default is a parameter with an initializer
 abbrev pub parameter_as : Option Term → Option Term
 parameter_as (Some (node Kind.AssignmentPattern texts (more p (more e none)))) = Some (parameter_of p e)
-parameter_as (Some p) = Some (parameter_of p absent)
-parameter_as None = None
+parameter_as (Some (node k texts ts)) = Some (parameter_of (node k texts ts) absent)
+parameter_as o = None
 
 abbrev pub parameters_as : List Term → Option (List Term)
 parameters_as [] = Some []
