@@ -64,7 +64,7 @@ async_full : (t : Term) → is_async t ≡ true → edge t ≡ full
 async_full (node Kind.Identifier (x ∷ []) none) h = refl
 async_full t h = absurd (false≢true h)
 
-paren_tight : (i : Bool) (b : Text) → sees (codes "(") b ≡ true → tightness i b ≡ 19
+pub paren_tight : (i : Bool) (b : Text) → sees (codes "(") b ≡ true → tightness i b ≡ 19
 unfolding tightness
 paren_tight i b h = let is = sees_sign (codes "(") b h in rw (sign_takes (codes "(") b is refl, is) refl
 
@@ -87,6 +87,15 @@ quiet_holds i t k b h low = quiet_cases (is_async t) (same_line b) (sees (codes 
 pub quiet_other : (t : Term) (b : Text) → sees (codes "(") b ≡ false → quiet t b ≡ true
 unfolding quiet
 quiet_other t b h = quiet_cases (is_async t) (same_line b) (sees (codes "(") b) (λ e s. false≢true (sym h ∙ s))
+
+pub quiet_broken : (t : Term) (b : Text) → same_line b ≡ false → quiet t b ≡ true
+unfolding quiet
+quiet_broken t b h = quiet_line (is_async t) (same_line b) (sees (codes "(") b) h
+  where
+    quiet_line : (p q r : Bool) → q ≡ false → not (p && (q && r)) ≡ true
+    quiet_line true true r h = absurd (false≢true (sym h))
+    quiet_line true false r h = refl
+    quiet_line false q r h = refl
 
 pub quiet_not_async : (t : Term) (b : Text) → is_async t ≡ false → quiet t b ≡ true
 unfolding quiet

@@ -27,3 +27,4 @@ pub mod Prefixes
 pub mod Listings
 pub mod Links
 pub mod Claims
+pub mod Calls

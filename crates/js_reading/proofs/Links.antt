@@ -76,7 +76,7 @@ arguments_read {es} {m = m} tok g tok' = record {
   reads = λ limit fits. arguments_there limit g tok' fits;
 }
 
-called_there : (optional : Bool) (f : Term) {es : List Term} {b c : Text} (limit : ℕ) (x : ArgumentsRead es b c) → depths (all es) ≤ limit → called (read limit) optional f x.rest ≡ Some (call_link optional f (all es), c)
+pub called_there : (optional : Bool) (f : Term) {es : List Term} {b c : Text} (limit : ℕ) (x : ArgumentsRead es b c) → depths (all es) ≤ limit → called (read limit) optional f x.rest ≡ Some (call_link optional f (all es), c)
 unfolding called
 called_there optional f limit x fits = rw (x.reads limit fits)
 
