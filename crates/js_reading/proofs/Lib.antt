@@ -28,3 +28,4 @@ pub mod Listings
 pub mod Links
 pub mod Claims
 pub mod Calls
+pub mod Grouped

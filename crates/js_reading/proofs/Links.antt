@@ -147,7 +147,7 @@ chain_call o {m = m} tok x = let open' = x.tok in record {
 
 -- ---- members and calls
 
-member_range : (n : ℕ) → 19 ≤ n → (19 ≤ member_level n) × (member_level n ≤ n) × (member_level n ≤ 20)
+pub member_range : (n : ℕ) → 19 ≤ n → (19 ≤ member_level n) × (member_level n ≤ n) × (member_level n ≤ 20)
 member_range n h = go (nat_eq n 19) refl
   where
     go : (t : Bool) → nat_eq n 19 ≡ t → (19 ≤ (if t then 19 else 20)) × ((if t then 19 else 20) ≤ n) × ((if t then 19 else 20) ≤ 20)

@@ -109,7 +109,7 @@ pub record FoundList (at : ℕ → Text → Reading Found) (hole : Bool) (es : L
   pub utf8 : IsUtf8 b
   pub reads : (limit : ℕ) → depths (all es) ≤ limit → ReadsAll hole false (at limit) found a b
 
-pub last_found : {at : ℕ → Text → Reading Found} {hole : Bool} {e : Term} {a b : Text} → FoundItem at hole e a b → FoundList at hole (e ∷ []) a b
+unfoldable pub last_found : {at : ℕ → Text → Reading Found} {hole : Bool} {e : Term} {a b : Text} → FoundItem at hole e a b → FoundList at hole (e ∷ []) a b
 last_found x = record {
   found = x.found ∷ [];
   trees_are = let t = x.tree_is in rw t;
@@ -118,7 +118,7 @@ last_found x = record {
   reads = λ limit fits. last_all (x.reads limit (omega arith));
 }
 
-pub and_found : {at : ℕ → Text → Reading Found} {hole' hole : Bool} {e : Term} {es : List Term} {a b c d : Text} → FoundItem at hole' e a b → Seen (sign (codes ",")) b c → FoundList at hole es c d → FoundList at hole (e ∷ es) a d
+unfoldable pub and_found : {at : ℕ → Text → Reading Found} {hole' hole : Bool} {e : Term} {es : List Term} {a b c d : Text} → FoundItem at hole' e a b → Seen (sign (codes ",")) b c → FoundList at hole es c d → FoundList at hole (e ∷ es) a d
 and_found x tok rest = record {
   found = x.found ∷ rest.found;
   trees_are = let t = x.tree_is in let ts = rest.trees_are in rw (t, ts);
