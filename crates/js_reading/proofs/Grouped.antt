@@ -78,6 +78,7 @@ array_read {i} {es} {a} {d = d} tok g tok' = record {
   barred = is_barred g.found g.comma;
   read = deeper (subst (λ f. IsRead i (suc (depths (all es))) f a d) (array_is g.found g.comma es g.trees_are g.covers_are) (array_found (depths (all es)) tok (λ limit fits. g.reads limit fits) tok')) (omega arith);
   utf8 = tok'.utf8;
+  simple = λ h. absurd (false≢true h);
 }
 
 pub object_read : {i : Bool} {es : List Term} {a b c d : Text} → Seen (sign (codes "{")) a b → FoundGroup property_of es b c → Seen (sign (codes "}")) c d → StandsRead i 21 (object_of (all es)) a d
@@ -85,6 +86,7 @@ object_read {i} {es} {a} {d = d} tok g tok' = record {
   barred = is_barred g.found g.comma;
   read = deeper (subst (λ f. IsRead i (suc (depths (all es))) f a d) (object_is g.found g.comma es g.trees_are g.covers_are) (object_found (depths (all es)) tok (λ limit fits. g.reads limit fits) tok')) (omega arith);
   utf8 = tok'.utf8;
+  simple = λ h. absurd (false≢true h);
 }
 
 -- ---- parentheses (13.2.9)

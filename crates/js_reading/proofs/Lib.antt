@@ -29,3 +29,4 @@ pub mod Links
 pub mod Claims
 pub mod Calls
 pub mod Grouped
+pub mod Arrows

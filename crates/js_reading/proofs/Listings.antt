@@ -7,7 +7,7 @@ use Rattle.js_term.specs.declared.kind.Kind.{Kind}
 use Rattle.js_term.specs.Node.{sequence_of}
 use Rattle.js_syntax.specs.Nodes.{of_part}
 use Rattle.js_syntax.specs.Tokens.{Lexeme, sign}
-use Rattle.js_syntax.specs.Edges.{Edge, edge, edge_last}
+use Rattle.js_syntax.specs.Edges.{Edge, edge, edge_last, is_simple_target}
 use Rattle.js_syntax.specs.Spelling.{is_several}
 use Rattle.js_tokens.specs.Next.{lexeme, after}
 use Rattle.js_reading.specs.declared.goal.Goal.{Goal}
@@ -26,9 +26,11 @@ pub record StandsRead (i : Bool) (n : ℕ) (e : Term) (a b : Text) : Type 0 wher
   pub barred : Bool
   pub read : IsRead i (depth e) (whole e n barred) a b
   pub utf8 : IsUtf8 b
+  -- a target that is no pattern
+  pub simple : is_simple_target e ≡ true → barred ≡ false
 
-pub stands : {i p : Bool} {n : ℕ} {e : Term} {a b : Text} → IsRead i (depth e) (whole e n p) a b → IsUtf8 b → StandsRead i n e a b
-stands {p = p} r u = record { barred = p; read = r; utf8 = u }
+pub stands : {i : Bool} {n : ℕ} {e : Term} {a b : Text} → IsRead i (depth e) (closed e n) a b → IsUtf8 b → StandsRead i n e a b
+stands r u = record { barred = false; read = r; utf8 = u; simple = λ h. refl }
 
 -- ---- expressions with commas between
 
