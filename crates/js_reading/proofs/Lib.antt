@@ -30,3 +30,4 @@ pub mod Claims
 pub mod Calls
 pub mod Grouped
 pub mod Arrows
+pub mod Shapes
