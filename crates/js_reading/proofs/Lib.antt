@@ -31,3 +31,4 @@ pub mod Calls
 pub mod Grouped
 pub mod Arrows
 pub mod Shapes
+pub mod Dispatching
