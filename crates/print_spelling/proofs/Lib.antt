@@ -1,3 +1,10 @@
 pub mod Openings
 pub mod Tokens
-pub mod Try
+pub mod Spread
+pub mod Fits
+pub mod Claims
+pub mod Placed
+pub mod Leaves
+pub mod Shapes
+pub mod Lists
+pub mod Operators
