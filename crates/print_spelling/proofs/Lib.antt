@@ -8,3 +8,5 @@ pub mod Leaves
 pub mod Shapes
 pub mod Lists
 pub mod Operators
+pub mod Calls
+pub mod Links
