@@ -10,3 +10,4 @@ pub mod Lists
 pub mod Operators
 pub mod Calls
 pub mod Links
+pub mod Templates
