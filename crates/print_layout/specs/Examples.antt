@@ -144,6 +144,7 @@ pub record OperationRows : Type 0 where
   pub a_new : printed (new_of (static_link false (call_link false a none) (codes "x")) none) ≡ codes "new (a().x)()"
   pub a_string_statement : printed (statement_of (string_of (codes "x"))) ≡ codes "('x');"
   pub a_definition_statement : printed (statement_of (assigned (static_link false plain_function (codes "x")) a)) ≡ codes "(function() {}.x = a);"
+  pub a_brace_sequence : printed (statement_of (sequence_of (two (object_of none) a))) ≡ codes "({}, a);"
   pub a_brace_statement : printed (statement_of (assigned (rested Kind.ObjectAssignmentTarget [] absent) a)) ≡ codes "({} = a);"
 
 -- patterns and parameters (13.15.5, 14.3.3, 15.1)

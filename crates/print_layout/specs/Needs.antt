@@ -73,16 +73,19 @@ is_misread k texts t = false
 abbrev pub front_needs : Kind → List Text → Term → Bool
 front_needs k texts t = is_misread k texts t || is_looser (least k texts 0) t
 
-abbrev mutual
-  -- whether the text of a part, without parentheses round itself, begins with a node of such a kind
-  pub leads : (Kind → Bool) → Term → Bool
-  leads test absent = false
-  leads test (list ts) = false
-  leads test (node k texts ts) = if begins_with_part k texts then leads_first test k texts ts else test k
+abbrev pub never : Term → Bool
+never t = false
 
-  pub leads_first : (Kind → Bool) → Kind → List Text → Terms → Bool
-  leads_first test k texts none = false
-  leads_first test k texts (more t ts) = not (front_needs k texts t) && leads test t
+abbrev mutual
+  -- whether the text of a part begins with a node of such a kind, in no parentheses by its place
+  pub leads : (Kind → Bool) → (Term → Bool) → Term → Bool
+  leads test need absent = false
+  leads test need (list ts) = leads_first test need ts
+  leads test need (node k texts ts) = not (need (node k texts ts)) && (if begins_with_part k texts then leads_first test (front_needs k texts) ts else test k)
+
+  pub leads_first : (Kind → Bool) → (Term → Bool) → Terms → Bool
+  leads_first test need none = false
+  leads_first test need (more t ts) = leads test need t
 
 -- `{`, `function`, `class`
 abbrev pub is_opener : Kind → Bool
@@ -91,18 +94,15 @@ is_opener k = is_brace_kind k || is_definition_kind k
 -- An expression statement begins with none of them and is no string alone (14.5, 11.2.1), a default export with no
 -- definition (16.2.3), a concise body with no `{` (15.3).
 abbrev pub is_fronted : Kind → ℕ → Term → Bool
-is_fronted Kind.ExpressionStatement n t = leads is_opener t || has_kind is_string_kind t
-is_fronted Kind.ExportDefaultDeclaration n t = leads is_definition_kind t
-is_fronted Kind.ArrowFunctionExpression (suc n) t = leads is_brace_kind t
+is_fronted Kind.ExpressionStatement n t = leads is_opener never t || has_kind is_string_kind t
+is_fronted Kind.ExportDefaultDeclaration n t = leads is_definition_kind never t
+is_fronted Kind.ArrowFunctionExpression (suc n) t = leads is_brace_kind never t
 is_fronted k n t = false
 
 -- whether the part numbered so stands in parentheses
 abbrev pub needs : Kind → List Text → ℕ → Term → Bool
 needs k texts zero t = is_fronted k zero t || front_needs k texts t
 needs k texts (suc n) t = is_fronted k (suc n) t || is_looser (least k texts (suc n)) t
-
-abbrev pub never : Term → Bool
-never t = false
 
 -- Whether a bare `in` may stand in the part numbered so, from whether one may in the whole: it may in brackets, and in
 -- all but the first part of a `for` and what that ends with.

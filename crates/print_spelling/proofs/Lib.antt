@@ -11,3 +11,5 @@ pub mod Operators
 pub mod Calls
 pub mod Links
 pub mod Templates
+pub mod Fronts
+pub mod Assignments
