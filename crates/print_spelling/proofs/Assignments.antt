@@ -100,7 +100,7 @@ object_target_at : (i : Bool) (texts : List Text) (ts : Terms) → Claim off (no
 object_target_at true texts ts c = record { target = λ g rest e. c.0 true g rest; fresh = λ rest. braces_fresh _ _ _ rest }
 object_target_at false texts ts c = record { target = λ g rest e. c.0 false g rest; fresh = λ rest. braces_fresh _ _ _ rest }
 
-target_by : (i : Bool) (k : Kind) (texts : List Text) (ts : Terms) → sorts.is_target k ≡ true → Claim off (node k texts ts) → TargetAt i (node k texts ts)
+pub target_by : (i : Bool) (k : Kind) (texts : List Text) (ts : Terms) → sorts.is_target k ≡ true → Claim off (node k texts ts) → TargetAt i (node k texts ts)
 target_by i k texts ts h c = elim (target_kind k h) as (λ z. TargetAt i (node k texts ts)) [
   | array_kind e ↦ subst (λ j. Claim off (node j texts ts) → TargetAt i (node j texts ts)) (sym e) (array_target_at i texts ts) c
   | object_kind e ↦ subst (λ j. Claim off (node j texts ts) → TargetAt i (node j texts ts)) (sym e) (object_target_at i texts ts) c

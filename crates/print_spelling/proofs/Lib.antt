@@ -13,3 +13,5 @@ pub mod Links
 pub mod Templates
 pub mod Fronts
 pub mod Assignments
+pub mod Keys
+pub mod Patterns

@@ -77,7 +77,7 @@ wrapped_present i need absent h = differ (sym h)
 wrapped_present i need (list ts) h = refl
 wrapped_present i need (node k texts ts) h = put_present (is_held i need k texts ts) (i || is_held i need k texts ts) (node k texts ts) refl
 
-last_present : (p : Place) → Whole p → (i : Bool) (need : Term → Bool) (t : Term) (ts : Terms) → each_shaped p (more t ts) ≡ true → last_absent (each_wrapped i need (more t ts)) ≡ false
+pub last_present : (p : Place) → Whole p → (i : Bool) (need : Term → Bool) (t : Term) (ts : Terms) → each_shaped p (more t ts) ≡ true → last_absent (each_wrapped i need (more t ts)) ≡ false
 last_present p w i need t none h = rw (wrapped_present i need t (w t (and_parts (has_shape p t) true h).0)) refl
 last_present p w i need t (more u us) h = last_present p w i need u us (and_parts (has_shape p t) _ h).1
 
