@@ -15,3 +15,4 @@ pub mod Fronts
 pub mod Assignments
 pub mod Keys
 pub mod Patterns
+pub mod ObjectPatterns

@@ -33,26 +33,26 @@ use Rattle.print_spelling.proofs.Assignments.{TargetAt, target_by, target_at, si
 
 -- ---- items and a rest
 
-with_rest : (trails : Bool) (s : Sort) (p : Place) → ((t : Term) → has_shape p t ≡ true → Claim off t → ItemAt s true never t) → (ts : Terms) → each_shaped p ts ≡ true → Each off ts → (u : Term) (f : To) (rest : Text) → ((g : Lead) → Rest s u (led g (f rest)) rest) → Rested trails s (each_wrapped true never ts) u (separated_to comma (each_to true never ts) (flag (has_items (list ts)) comma ++ f rest)) rest
+pub with_rest : (trails : Bool) (s : Sort) (p : Place) → ((t : Term) → has_shape p t ≡ true → Claim off t → ItemAt s true never t) → (ts : Terms) → each_shaped p ts ≡ true → Each off ts → (u : Term) (f : To) (rest : Text) → ((g : Lead) → Rest s u (led g (f rest)) rest) → Rested trails s (each_wrapped true never ts) u (separated_to comma (each_to true never ts) (flag (has_items (list ts)) comma ++ f rest)) rest
 with_rest trails s p item none h c u f rest r = rest_alone (r flush)
 with_rest trails s p item (more t ts) h c u f rest r = and_rest (listed s true never t ts (each_item s p off true never item (more t ts) h c) flush (44 ∷ 32 ∷ f rest) refl) (comma_at (lead_last flush (more t ts))) (r spaced)
 
-no_comma : (ts : Terms) → flag (has_items (list ts)) [] ≡ []
+pub no_comma : (ts : Terms) → flag (has_items (list ts)) [] ≡ []
 no_comma none = refl
 no_comma (more t ts) = refl
 
 -- ---- patterns in their places
 
-pattern_kind : (k : Kind) → is_among k patterns ≡ true → (k ≡ Kind.BindingIdentifier) ⊎ ((k ≡ Kind.ObjectPattern) ⊎ (k ≡ Kind.ArrayPattern))
+pub pattern_kind : (k : Kind) → is_among k patterns ≡ true → (k ≡ Kind.BindingIdentifier) ⊎ ((k ≡ Kind.ObjectPattern) ⊎ (k ≡ Kind.ArrayPattern))
 pattern_kind Kind.BindingIdentifier h = inl refl
 pattern_kind Kind.ObjectPattern h = inr (inl refl)
 pattern_kind Kind.ArrayPattern h = inr (inr refl)
 pattern_kind k h = differ (sym h)
 
-abbrev PatternAt : Term → Type 0
+abbrev pub PatternAt : Term → Type 0
 PatternAt t = (g : Lead) (rest : Text) → stops rest ≡ true → Pattern (wrapped true never t) (led g (to true never t rest)) rest
 
-pattern_by : (k : Kind) (texts : List Text) (ts : Terms) → is_among k patterns ≡ true → Claim off (node k texts ts) → PatternAt (node k texts ts)
+pub pattern_by : (k : Kind) (texts : List Text) (ts : Terms) → is_among k patterns ≡ true → Claim off (node k texts ts) → PatternAt (node k texts ts)
 pattern_by k texts ts h c = elim (pattern_kind k h) as (λ z. PatternAt (node k texts ts)) [
   | inl e ↦ subst (λ j. Claim off (node j texts ts) → PatternAt (node j texts ts)) (sym e) (λ c. c.0) c
   | inr r ↦ elim r as (λ z. PatternAt (node k texts ts)) [
@@ -101,14 +101,14 @@ target_default_rule m texts ts f c g rest s = differ (sym f.counted)
 
 -- ---- elements of patterns
 
-abbrev DefaultedAt : Term → Type 0
+abbrev pub DefaultedAt : Term → Type 0
 DefaultedAt t = (g : Lead) (rest : Text) → ends rest false ≡ true → Defaulted (wrapped true never t) (led g (to true never t rest)) rest
 
-element_kind : (k : Kind) → takes sorts.Sort.pattern_element k ≡ true → (k ≡ Kind.AssignmentPattern) ⊎ (is_among k patterns ≡ true)
+pub element_kind : (k : Kind) → takes sorts.Sort.pattern_element k ≡ true → (k ≡ Kind.AssignmentPattern) ⊎ (is_among k patterns ≡ true)
 element_kind Kind.AssignmentPattern h = inl refl
 element_kind k h = inr h
 
-defaulted_at : (t : Term) → has_shape (Place.one sorts.Sort.pattern_element) t ≡ true → Claim off t → DefaultedAt t
+pub defaulted_at : (t : Term) → has_shape (Place.one sorts.Sort.pattern_element) t ≡ true → Claim off t → DefaultedAt t
 defaulted_at absent h c = differ (sym h)
 defaulted_at (list ts) h c = differ (sym h)
 defaulted_at (node k texts ts) h c = elim (element_kind k (taken_by sorts.Sort.pattern_element k texts ts h).taken) as (λ z. DefaultedAt (node k texts ts)) [
@@ -121,14 +121,14 @@ binding_item absent h c g rest s = a_hole
 binding_item (list ts) h c g rest s = differ (sym h)
 binding_item (node k texts ts) h c g rest s = a_binding (defaulted_at (node k texts ts) h c g rest s)
 
-abbrev DefaultedTargetAt : Term → Type 0
+abbrev pub DefaultedTargetAt : Term → Type 0
 DefaultedTargetAt t = (g : Lead) (rest : Text) → ends rest false ≡ true → DefaultedTarget (wrapped true never t) (led g (to true never t rest)) rest
 
-target_element_kind : (k : Kind) → takes sorts.Sort.target_element k ≡ true → (k ≡ Kind.AssignmentTargetWithDefault) ⊎ (sorts.is_target k ≡ true)
+pub target_element_kind : (k : Kind) → takes sorts.Sort.target_element k ≡ true → (k ≡ Kind.AssignmentTargetWithDefault) ⊎ (sorts.is_target k ≡ true)
 target_element_kind Kind.AssignmentTargetWithDefault h = inl refl
 target_element_kind k h = inr h
 
-defaulted_target_at : (t : Term) → has_shape (Place.one sorts.Sort.target_element) t ≡ true → Claim off t → DefaultedTargetAt t
+pub defaulted_target_at : (t : Term) → has_shape (Place.one sorts.Sort.target_element) t ≡ true → Claim off t → DefaultedTargetAt t
 defaulted_target_at absent h c = differ (sym h)
 defaulted_target_at (list ts) h c = differ (sym h)
 defaulted_target_at (node k texts ts) h c = elim (target_element_kind k (taken_by sorts.Sort.target_element k texts ts h).taken) as (λ z. DefaultedTargetAt (node k texts ts)) [
@@ -167,3 +167,67 @@ array_pattern_rule m [] (more (list ts) (more (list us) none)) f c g rest s = di
 array_pattern_rule m [] (more absent (more t none)) f c g rest s = differ (sym f.placed.0)
 array_pattern_rule m [] (more (node k xs us) (more t none)) f c g rest s = differ (sym f.placed.0)
 array_pattern_rule m texts ts f c g rest s = differ (sym f.counted)
+
+-- ---- array targets
+
+target_rest : (r : Term) → has_shape (Place.one (sorts.Sort.only Kind.AssignmentTargetRest)) r ≡ true → Claim off r → (g : Lead) (rest : Text) → ends rest false ≡ true → Rest target_element (wrapped true never r) (led g (to true never r rest)) rest
+target_rest r h c = only Kind.AssignmentTargetRest (λ z. Claim off z → (g : Lead) (rest : Text) → ends rest false ≡ true → Rest target_element (wrapped true never z) (led g (to true never z rest)) rest) (λ texts ts h c. by texts ts (fit_of (sorts.Sort.only Kind.AssignmentTargetRest) Kind.AssignmentTargetRest texts ts refl h).1 c.1) r h c
+  where
+    by : (texts : List Text) (ts : Terms) → Fit (Place.one sorts.Sort.target ∷ []) Kind.AssignmentTargetRest texts ts → Kids (λ n. off) 0 ts → (g : Lead) (rest : Text) → ends rest false ≡ true → Rest target_element (bare true (node Kind.AssignmentTargetRest texts ts)) (led g (bare_to true (node Kind.AssignmentTargetRest texts ts) rest)) rest
+    by [] (more p none) f c g rest s = rest_target (dots_at g) ((target_at true p f.placed.0 c.0).target flush rest s)
+    by texts ts f c g rest s = differ (sym f.counted)
+
+pub array_target_rule : Rule Kind.ArrayAssignmentTarget
+array_target_rule m [] (more (list ts) (more absent none)) f c i g rest =
+    let shape = (list_shape (Place.spaced sorts.Sort.target_element) ts f.placed.0).1 in
+    subst (λ z. Target i (rested Kind.ArrayAssignmentTarget (each_wrapped true never ts) absent) (led g (91 ∷ separated_to comma (each_to true never ts) (z ++ (flag (ends_in_hole ts) (codes ",") ++ 93 ∷ rest)))) rest) (sym (no_comma ts))
+    (subst (λ z. Target i (rested Kind.ArrayAssignmentTarget (each_wrapped true never ts) absent) (led g (91 ∷ separated_to comma (each_to true never ts) z)) rest) (sym (closing_flag (ends_in_hole ts) (93 ∷ rest)))
+    (array_target (left_bracket g) (no_rest (holed_group target_element (Place.optional sorts.Sort.target_element) off true never target_item ts shape c.0 (93 ∷ rest) refl (ends_in_hole ts) refl)) (right_bracket flush)))
+array_target_rule m [] (more (list ts) (more (node k xs us) none)) f c i g rest =
+    let shape = (list_shape (Place.spaced sorts.Sort.target_element) ts f.placed.0).1 in
+    array_target (left_bracket g) (with_rest true target_element (Place.optional sorts.Sort.target_element) target_item ts shape c.0 (wrapped true never (node k xs us)) (to true never (node k xs us)) (93 ∷ rest) (λ l. target_rest (node k xs us) f.placed.1.0 c.1.0 l (93 ∷ rest) refl)) (right_bracket flush)
+array_target_rule m [] (more (list ts) (more (list us) none)) f c i g rest = differ (sym f.placed.1.0)
+array_target_rule m [] (more absent (more t none)) f c i g rest = differ (sym f.placed.0)
+array_target_rule m [] (more (node k xs us) (more t none)) f c i g rest = differ (sym f.placed.0)
+array_target_rule m texts ts f c i g rest = differ (sym f.counted)
+
+-- ---- parameters
+
+formal_rest : (r : Term) → has_shape (Place.one (sorts.Sort.only Kind.FormalParameterRest)) r ≡ true → Claim off r → (g : Lead) (rest : Text) → stops rest ≡ true → Rest parameter (wrapped true never r) (led g (to true never r rest)) rest
+formal_rest r h c = only Kind.FormalParameterRest (λ z. Claim off z → (g : Lead) (rest : Text) → stops rest ≡ true → Rest parameter (wrapped true never z) (led g (to true never z rest)) rest) (λ texts ts h c. by texts ts (fit_of (sorts.Sort.only Kind.FormalParameterRest) Kind.FormalParameterRest texts ts refl h).1 c.1) r h c
+  where
+    inner : (texts : List Text) (ts : Terms) → Fit (Place.one sorts.Sort.pattern ∷ []) Kind.BindingRestElement texts ts → Kids (λ n. off) 0 ts → (g : Lead) (rest : Text) → stops rest ≡ true → Rest parameter (of_part Kind.FormalParameterRest (bare true (node Kind.BindingRestElement texts ts))) (led g (bare_to true (node Kind.BindingRestElement texts ts) rest)) rest
+    inner [] (more p none) f c g rest s = rest_parameter (dots_at g) (pattern_at p f.placed.0 c.0 flush rest s)
+    inner texts ts f c g rest s = differ (sym f.counted)
+
+    element : (p : Term) → has_shape (Place.one (sorts.Sort.only Kind.BindingRestElement)) p ≡ true → Claim off p → (g : Lead) (rest : Text) → stops rest ≡ true → Rest parameter (of_part Kind.FormalParameterRest (wrapped true never p)) (led g (to true never p rest)) rest
+    element p h c = only Kind.BindingRestElement (λ z. Claim off z → (g : Lead) (rest : Text) → stops rest ≡ true → Rest parameter (of_part Kind.FormalParameterRest (wrapped true never z)) (led g (to true never z rest)) rest) (λ texts ts h c. inner texts ts (fit_of (sorts.Sort.only Kind.BindingRestElement) Kind.BindingRestElement texts ts refl h).1 c.1) p h c
+
+    by : (texts : List Text) (ts : Terms) → Fit (Place.one (sorts.Sort.only Kind.BindingRestElement) ∷ []) Kind.FormalParameterRest texts ts → Kids (λ n. off) 0 ts → (g : Lead) (rest : Text) → stops rest ≡ true → Rest parameter (bare true (node Kind.FormalParameterRest texts ts)) (led g (bare_to true (node Kind.FormalParameterRest texts ts) rest)) rest
+    by [] (more p none) f c g rest s = element p f.placed.0 c.0 g rest s
+    by texts ts f c g rest s = differ (sym f.counted)
+
+parameter_item : (t : Term) → has_shape (Place.one (sorts.Sort.only Kind.FormalParameter)) t ≡ true → Claim off t → ItemAt parameter true never t
+parameter_item absent h c g rest s = differ (sym h)
+parameter_item (list ts) h c g rest s = differ (sym h)
+parameter_item (node k texts ts) h c g rest s =
+    subst (λ j. Claim off (node j texts ts) → Item parameter (wrapped true never (node j texts ts)) (led g (to true never (node j texts ts) rest)) rest) (sym (kind_is k Kind.FormalParameter (taken_by (sorts.Sort.only Kind.FormalParameter) k texts ts h).taken)) (λ c. c.0 g rest s) c
+
+only_parameters : (trails : Bool) (ts : Terms) → each_shaped (Place.one (sorts.Sort.only Kind.FormalParameter)) ts ≡ true → Each off ts → (rest : Text) → Rested trails parameter (each_wrapped true never ts) absent (separated_to comma (each_to true never ts) (41 ∷ rest)) (41 ∷ rest)
+only_parameters true ts h c rest = no_rest (whole_group parameter (Place.one (sorts.Sort.only Kind.FormalParameter)) (one_whole (sorts.Sort.only Kind.FormalParameter)) off true never parameter_item ts h c (41 ∷ rest) refl)
+only_parameters false none h c rest = nothing
+only_parameters false (more t ts) h c rest =
+    no_rest_closed (last_present (Place.one (sorts.Sort.only Kind.FormalParameter)) (one_whole (sorts.Sort.only Kind.FormalParameter)) true never t ts h) (whole_list parameter (Place.one (sorts.Sort.only Kind.FormalParameter)) (one_whole (sorts.Sort.only Kind.FormalParameter)) off true never parameter_item t ts h c flush (41 ∷ rest) refl)
+
+pub parameters_rule : Rule Kind.FormalParameters
+parameters_rule m [] (more (list ts) (more absent none)) f c trails g rest =
+    let shape = (list_shape (Place.many (sorts.Sort.only Kind.FormalParameter)) ts f.placed.0).1 in
+    subst (λ z. Parameters trails (rested Kind.FormalParameters (each_wrapped true never ts) absent) (led g (40 ∷ separated_to comma (each_to true never ts) (z ++ 41 ∷ rest))) rest) (sym (no_comma ts))
+    (parameters (left_parenthesis g) (only_parameters trails ts shape c.0 rest) (right_parenthesis flush))
+parameters_rule m [] (more (list ts) (more (node k xs us) none)) f c trails g rest =
+    let shape = (list_shape (Place.many (sorts.Sort.only Kind.FormalParameter)) ts f.placed.0).1 in
+    parameters (left_parenthesis g) (with_rest trails parameter (Place.one (sorts.Sort.only Kind.FormalParameter)) parameter_item ts shape c.0 (wrapped true never (node k xs us)) (to true never (node k xs us)) (41 ∷ rest) (λ l. formal_rest (node k xs us) f.placed.1.0 c.1.0 l (41 ∷ rest) refl)) (right_parenthesis flush)
+parameters_rule m [] (more (list ts) (more (list us) none)) f c trails g rest = differ (sym f.placed.1.0)
+parameters_rule m [] (more absent (more t none)) f c trails g rest = differ (sym f.placed.0)
+parameters_rule m [] (more (node k xs us) (more t none)) f c trails g rest = differ (sym f.placed.0)
+parameters_rule m texts ts f c trails g rest = differ (sym f.counted)
