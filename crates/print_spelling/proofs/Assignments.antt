@@ -112,7 +112,7 @@ target_at i absent h c = differ (sym h)
 target_at i (list ts) h c = differ (sym h)
 target_at i (node k texts ts) h c = target_by i k texts ts (taken_by Sort.target k texts ts h).taken c
 
-simple_target_at : (i : Bool) (t : Term) → has_shape (Place.one Sort.simple_target) t ≡ true → Claim off t → TargetAt i t
+pub simple_target_at : (i : Bool) (t : Term) → has_shape (Place.one Sort.simple_target) t ≡ true → Claim off t → TargetAt i t
 simple_target_at i t h c = let p = simple_is i t h c in record { target = λ g rest e. simple_target p.is (p.at.stands g (through _ rest e)); fresh = p.at.placed.expr.opens.fresh }
 
 -- ---- assignments

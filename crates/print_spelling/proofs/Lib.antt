@@ -16,3 +16,5 @@ pub mod Assignments
 pub mod Keys
 pub mod Patterns
 pub mod ObjectPatterns
+pub mod ObjectTargets
+pub mod Functions

@@ -16,7 +16,7 @@ use Rattle.js_syntax.specs.Sorts as sorts
 use Rattle.js_syntax.specs.Sorts.{Place, takes}
 use Rattle.js_syntax.specs.Places.{places, key_place}
 use Rattle.js_syntax.specs.Printable.{has_shape, is_one_name, is_value_of, marks_shorthand}
-use Rattle.js_syntax.specs.Spelling.{Item, Rest, rest_properties, rest_target_properties, Rested, no_rest, Pattern, object_pattern, Target, object_target, a_binding_pair, a_binding_shorthand, a_binding_default, a_target_pair, a_target_shorthand, a_target_default, binding_property, target_property}
+use Rattle.js_syntax.specs.Spelling.{Item, no_items, items, Rest, rest_properties, rest_target_properties, Rested, no_rest, rest_alone, Pattern, object_pattern, Target, object_target, a_binding_pair, a_binding_shorthand, a_binding_default, a_target_pair, a_target_shorthand, a_target_default, binding_property, target_property}
 use Rattle.print_layout.specs.Rows.{comma, has_items}
 use Rattle.print_layout.specs.Needs.{never}
 use Rattle.print_layout.specs.Layout.{wrapped, each_wrapped}
@@ -26,7 +26,7 @@ use Rattle.print_spelling.proofs.Fits.{Fit, are_words, are_many, Worded, fit_of,
 use Rattle.print_spelling.proofs.Shapes.{kind_is, only, leaf}
 use Rattle.print_spelling.proofs.Claims.{bare, bare_to, ends, ends_stop, through, Claim, Each, Kids, Mode, off, Rule}
 use Rattle.print_spelling.proofs.Placed.{loose, at}
-use Rattle.print_spelling.proofs.Lists.{ItemAt, one_whole, whole_group}
+use Rattle.print_spelling.proofs.Lists.{ItemAt, one_whole, whole_list, last_present}
 use Rattle.print_spelling.proofs.Keys.{key_at}
 use Rattle.print_spelling.proofs.Assignments.{target_at, simple_is}
 use Rattle.print_spelling.proofs.Patterns.{with_rest, no_comma, pattern_kind, element_kind, target_element_kind, pattern_at, defaulted_at, defaulted_target_at}
@@ -40,7 +40,7 @@ pub shorthand_word : (c : ℕ) (cs : Text) → texts.flag (codes "shorthand") (c
 shorthand_word c cs h = same_text (c ∷ cs) (codes "shorthand") (or_by (is_text (c ∷ cs) (codes "shorthand")) false (λ e. e) (λ e. differ (sym e)) h)
 
 -- the texts of a pair by its two flags
-pair_texts : (P : List Text → Type 0) → ((computed shorthand : Bool) → P (flag computed (codes "computed") ∷ flag shorthand (codes "shorthand") ∷ [])) → (x y : Text) → texts.flag (codes "computed") x ≡ true → texts.flag (codes "shorthand") y ≡ true → P (x ∷ y ∷ [])
+pub pair_texts : (P : List Text → Type 0) → ((computed shorthand : Bool) → P (flag computed (codes "computed") ∷ flag shorthand (codes "shorthand") ∷ [])) → (x y : Text) → texts.flag (codes "computed") x ≡ true → texts.flag (codes "shorthand") y ≡ true → P (x ∷ y ∷ [])
 pair_texts P f [] [] h k = f false false
 pair_texts P f (c ∷ cs) [] h k = subst (λ z. P (z ∷ [] ∷ [])) (sym (computed_word c cs h)) (f true false)
 pair_texts P f [] (d ∷ ds) h k = subst (λ z. P ([] ∷ z ∷ [])) (sym (shorthand_word d ds k)) (f false true)
@@ -48,11 +48,11 @@ pair_texts P f (c ∷ cs) (d ∷ ds) h k = subst (λ z. P (z ∷ (d ∷ ds) ∷ 
 
 -- ---- one name for key and value
 
-record IsBound (k : Kind) (x : Text) (t : Term) : Type 0 where
-  is : t ≡ node k (x ∷ []) none
-  free : is_free_name x ≡ true
+pub record IsBound (k : Kind) (x : Text) (t : Term) : Type 0 where
+  pub is : t ≡ node k (x ∷ []) none
+  pub free : is_free_name x ≡ true
 
-bound_leaf : (k : Kind) (x : Text) (xs : List Text) (ts : Terms) → (are_words (is_free_name ∷ []) xs && are_many [] ts ≡ true) → Worded (is_free_name ∷ []) xs → first_is x xs ≡ true → IsBound k x (node k xs ts)
+pub bound_leaf : (k : Kind) (x : Text) (xs : List Text) (ts : Terms) → (are_words (is_free_name ∷ []) xs && are_many [] ts ≡ true) → Worded (is_free_name ∷ []) xs → first_is x xs ≡ true → IsBound k x (node k xs ts)
 bound_leaf k x (y ∷ []) none c w h = subst (λ z. IsBound k z (node k (y ∷ []) none)) (same_text y x h) (record { is = refl; free = w.0 })
 bound_leaf k x xs ts c w h = differ (sym c)
 
@@ -67,7 +67,7 @@ bound_pattern x (node k xs ts) h v = elim (pattern_kind k (taken_by sorts.Sort.p
   ]
 ]
 
-free_parts : (x : Text) → is_free_name x ≡ true → (is_name x ≡ true) × (is_reserved x ≡ false)
+pub free_parts : (x : Text) → is_free_name x ≡ true → (is_name x ≡ true) × (is_reserved x ≡ false)
 free_parts x h = let both = and_parts (is_name x) (not (is_reserved x)) h in (both.0, not-true (is_reserved x) both.1)
 
 abbrev ShorthandAt : Text → Term → Type 0
@@ -139,3 +139,36 @@ binding_property_rule m (x ∷ y ∷ []) (more k (more v none)) f c g rest e =
     by false true h s = property_by false true k v h f.placed.1.0 c.0 c.1.0 s
     by false false h s = property_by false false k v h f.placed.1.0 c.0 c.1.0 s
 binding_property_rule m texts ts f c g rest e = differ (sym f.counted)
+
+-- ---- { k: p, ...x }
+
+property_item : (t : Term) → has_shape (Place.one (sorts.Sort.only Kind.BindingProperty)) t ≡ true → Claim off t → ItemAt binding_property true never t
+property_item absent h c g rest s = differ (sym h)
+property_item (list ts) h c g rest s = differ (sym h)
+property_item (node k texts ts) h c g rest s =
+    subst (λ j. Claim off (node j texts ts) → Item binding_property (wrapped true never (node j texts ts)) (led g (to true never (node j texts ts) rest)) rest) (sym (kind_is k Kind.BindingProperty (taken_by (sorts.Sort.only Kind.BindingProperty) k texts ts h).taken)) (λ c. c.0 g rest s) c
+
+object_rest_at : (r : Term) → has_shape (Place.one sorts.Sort.object_rest) r ≡ true → (g : Lead) (rest : Text) → stops rest ≡ true → Rest binding_property (wrapped true never r) (led g (to true never r rest)) rest
+object_rest_at absent h g rest s = differ (sym h)
+object_rest_at (list ts) h g rest s = differ (sym h)
+object_rest_at (node k texts ts) h g rest s =
+    subst (λ j. has_shape (Place.one sorts.Sort.object_rest) (node j texts ts) ≡ true → Rest binding_property (wrapped true never (node j texts ts)) (led g (to true never (node j texts ts) rest)) rest) (sym (kind_is k Kind.BindingRestElement (taken_by sorts.Sort.object_rest k texts ts h).taken)) (λ h. by texts ts (fit_of sorts.Sort.object_rest Kind.BindingRestElement texts ts refl h).1) h
+  where
+    by : (texts : List Text) (ts : Terms) → Fit (Place.one (sorts.Sort.only Kind.BindingIdentifier) ∷ []) Kind.BindingRestElement texts ts → Rest binding_property (wrapped true never (node Kind.BindingRestElement texts ts)) (led g (to true never (node Kind.BindingRestElement texts ts) rest)) rest
+    by [] (more p none) f = leaf Kind.BindingIdentifier is_free_name refl refl (λ texts. refl) (λ z. Rest binding_property (wrapped true never (node Kind.BindingRestElement [] (one z))) (led g (to true never (node Kind.BindingRestElement [] (one z)) rest)) rest) (λ x b. let n = free_parts x b in rest_properties n.1 (dots_at g) (name_at flush n.0 s)) p f.placed.0
+    by texts ts f = differ (sym f.counted)
+
+pub object_pattern_rule : Rule Kind.ObjectPattern
+object_pattern_rule m [] (more (list none) (more absent none)) f c g rest s = object_pattern (left_brace g) (no_rest no_items) (right_brace flush)
+object_pattern_rule m [] (more (list (more t ts)) (more absent none)) f c g rest s =
+    let shape = (list_shape (Place.many (sorts.Sort.only Kind.BindingProperty)) (more t ts) f.placed.0).1 in
+    object_pattern (left_brace g) (no_rest (items (last_present (Place.one (sorts.Sort.only Kind.BindingProperty)) (one_whole (sorts.Sort.only Kind.BindingProperty)) true never t ts shape) (whole_list binding_property (Place.one (sorts.Sort.only Kind.BindingProperty)) (one_whole (sorts.Sort.only Kind.BindingProperty)) off true never property_item t ts shape c.0 spaced (32 ∷ 125 ∷ rest) refl))) (right_brace spaced)
+object_pattern_rule m [] (more (list none) (more (node k xs us) none)) f c g rest s =
+    object_pattern (left_brace g) (rest_alone (object_rest_at (node k xs us) f.placed.1.0 spaced (32 ∷ 125 ∷ rest) refl)) (right_brace spaced)
+object_pattern_rule m [] (more (list (more t ts)) (more (node k xs us) none)) f c g rest s =
+    let shape = (list_shape (Place.many (sorts.Sort.only Kind.BindingProperty)) (more t ts) f.placed.0).1 in
+    object_pattern (left_brace g) (with_rest true binding_property (Place.one (sorts.Sort.only Kind.BindingProperty)) property_item (more t ts) shape c.0 (wrapped true never (node k xs us)) (to true never (node k xs us)) (32 ∷ 125 ∷ rest) (λ l. object_rest_at (node k xs us) f.placed.1.0 l (32 ∷ 125 ∷ rest) refl) spaced) (right_brace spaced)
+object_pattern_rule m [] (more (list ts) (more (list us) none)) f c g rest s = differ (sym f.placed.1.0)
+object_pattern_rule m [] (more absent (more t none)) f c g rest s = differ (sym f.placed.0)
+object_pattern_rule m [] (more (node k xs us) (more t none)) f c g rest s = differ (sym f.placed.0)
+object_pattern_rule m texts ts f c g rest s = differ (sym f.counted)

@@ -33,9 +33,9 @@ use Rattle.print_spelling.proofs.Assignments.{TargetAt, target_by, target_at, si
 
 -- ---- items and a rest
 
-pub with_rest : (trails : Bool) (s : Sort) (p : Place) → ((t : Term) → has_shape p t ≡ true → Claim off t → ItemAt s true never t) → (ts : Terms) → each_shaped p ts ≡ true → Each off ts → (u : Term) (f : To) (rest : Text) → ((g : Lead) → Rest s u (led g (f rest)) rest) → Rested trails s (each_wrapped true never ts) u (separated_to comma (each_to true never ts) (flag (has_items (list ts)) comma ++ f rest)) rest
-with_rest trails s p item none h c u f rest r = rest_alone (r flush)
-with_rest trails s p item (more t ts) h c u f rest r = and_rest (listed s true never t ts (each_item s p off true never item (more t ts) h c) flush (44 ∷ 32 ∷ f rest) refl) (comma_at (lead_last flush (more t ts))) (r spaced)
+pub with_rest : (trails : Bool) (s : Sort) (p : Place) → ((t : Term) → has_shape p t ≡ true → Claim off t → ItemAt s true never t) → (ts : Terms) → each_shaped p ts ≡ true → Each off ts → (u : Term) (f : To) (rest : Text) → ((g : Lead) → Rest s u (led g (f rest)) rest) → (l : Lead) → Rested trails s (each_wrapped true never ts) u (led l (separated_to comma (each_to true never ts) (flag (has_items (list ts)) comma ++ f rest))) rest
+with_rest trails s p item none h c u f rest r l = rest_alone (r l)
+with_rest trails s p item (more t ts) h c u f rest r l = and_rest (listed s true never t ts (each_item s p off true never item (more t ts) h c) l (44 ∷ 32 ∷ f rest) refl) (comma_at (lead_last l (more t ts))) (r spaced)
 
 pub no_comma : (ts : Terms) → flag (has_items (list ts)) [] ≡ []
 no_comma none = refl
@@ -162,7 +162,7 @@ array_pattern_rule m [] (more (list ts) (more absent none)) f c g rest s =
     (array_pattern (left_bracket g) (no_rest (holed_group binding_element (Place.optional sorts.Sort.pattern_element) off true never binding_item ts shape c.0 (93 ∷ rest) refl (ends_in_hole ts) refl)) (right_bracket flush)))
 array_pattern_rule m [] (more (list ts) (more (node k xs us) none)) f c g rest s =
     let shape = (list_shape (Place.spaced sorts.Sort.pattern_element) ts f.placed.0).1 in
-    array_pattern (left_bracket g) (with_rest true binding_element (Place.optional sorts.Sort.pattern_element) binding_item ts shape c.0 (wrapped true never (node k xs us)) (to true never (node k xs us)) (93 ∷ rest) (λ l. binding_rest (node k xs us) f.placed.1.0 c.1.0 l (93 ∷ rest) refl)) (right_bracket flush)
+    array_pattern (left_bracket g) (with_rest true binding_element (Place.optional sorts.Sort.pattern_element) binding_item ts shape c.0 (wrapped true never (node k xs us)) (to true never (node k xs us)) (93 ∷ rest) (λ l. binding_rest (node k xs us) f.placed.1.0 c.1.0 l (93 ∷ rest) refl) flush) (right_bracket flush)
 array_pattern_rule m [] (more (list ts) (more (list us) none)) f c g rest s = differ (sym f.placed.1.0)
 array_pattern_rule m [] (more absent (more t none)) f c g rest s = differ (sym f.placed.0)
 array_pattern_rule m [] (more (node k xs us) (more t none)) f c g rest s = differ (sym f.placed.0)
@@ -185,7 +185,7 @@ array_target_rule m [] (more (list ts) (more absent none)) f c i g rest =
     (array_target (left_bracket g) (no_rest (holed_group target_element (Place.optional sorts.Sort.target_element) off true never target_item ts shape c.0 (93 ∷ rest) refl (ends_in_hole ts) refl)) (right_bracket flush)))
 array_target_rule m [] (more (list ts) (more (node k xs us) none)) f c i g rest =
     let shape = (list_shape (Place.spaced sorts.Sort.target_element) ts f.placed.0).1 in
-    array_target (left_bracket g) (with_rest true target_element (Place.optional sorts.Sort.target_element) target_item ts shape c.0 (wrapped true never (node k xs us)) (to true never (node k xs us)) (93 ∷ rest) (λ l. target_rest (node k xs us) f.placed.1.0 c.1.0 l (93 ∷ rest) refl)) (right_bracket flush)
+    array_target (left_bracket g) (with_rest true target_element (Place.optional sorts.Sort.target_element) target_item ts shape c.0 (wrapped true never (node k xs us)) (to true never (node k xs us)) (93 ∷ rest) (λ l. target_rest (node k xs us) f.placed.1.0 c.1.0 l (93 ∷ rest) refl) flush) (right_bracket flush)
 array_target_rule m [] (more (list ts) (more (list us) none)) f c i g rest = differ (sym f.placed.1.0)
 array_target_rule m [] (more absent (more t none)) f c i g rest = differ (sym f.placed.0)
 array_target_rule m [] (more (node k xs us) (more t none)) f c i g rest = differ (sym f.placed.0)
@@ -226,7 +226,7 @@ parameters_rule m [] (more (list ts) (more absent none)) f c trails g rest =
     (parameters (left_parenthesis g) (only_parameters trails ts shape c.0 rest) (right_parenthesis flush))
 parameters_rule m [] (more (list ts) (more (node k xs us) none)) f c trails g rest =
     let shape = (list_shape (Place.many (sorts.Sort.only Kind.FormalParameter)) ts f.placed.0).1 in
-    parameters (left_parenthesis g) (with_rest trails parameter (Place.one (sorts.Sort.only Kind.FormalParameter)) parameter_item ts shape c.0 (wrapped true never (node k xs us)) (to true never (node k xs us)) (41 ∷ rest) (λ l. formal_rest (node k xs us) f.placed.1.0 c.1.0 l (41 ∷ rest) refl)) (right_parenthesis flush)
+    parameters (left_parenthesis g) (with_rest trails parameter (Place.one (sorts.Sort.only Kind.FormalParameter)) parameter_item ts shape c.0 (wrapped true never (node k xs us)) (to true never (node k xs us)) (41 ∷ rest) (λ l. formal_rest (node k xs us) f.placed.1.0 c.1.0 l (41 ∷ rest) refl) flush) (right_parenthesis flush)
 parameters_rule m [] (more (list ts) (more (list us) none)) f c trails g rest = differ (sym f.placed.1.0)
 parameters_rule m [] (more absent (more t none)) f c trails g rest = differ (sym f.placed.0)
 parameters_rule m [] (more (node k xs us) (more t none)) f c trails g rest = differ (sym f.placed.0)
