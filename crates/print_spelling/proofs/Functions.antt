@@ -39,6 +39,9 @@ parameters_open t h = only Kind.FormalParameters (λ z. (rest : Text) → is_ope
 parameters_stop : (t : Term) → has_shape (Place.one (Sort.only Kind.FormalParameters)) t ≡ true → (rest : Text) → stops (to true never t rest) ≡ true
 parameters_stop t h = only Kind.FormalParameters (λ z. (rest : Text) → stops (to true never z rest) ≡ true) (λ xs ts h rest. refl) t h
 
+pub parameters_end : (t : Term) → has_shape (Place.one (Sort.only Kind.FormalParameters)) t ≡ true → (rest : Text) → ends (to true never t rest) false ≡ true
+parameters_end t h = only Kind.FormalParameters (λ z. (rest : Text) → ends (to true never z rest) false ≡ true) (λ xs ts h rest. refl) t h
+
 -- whether a `*` before such a text is a sign
 abbrev starred : Text → Bool
 starred a = is_one_of (codes "*") signs && (opens_with (codes "*") (42 ∷ a) && is_longest (codes "*") (42 ∷ a))
@@ -59,9 +62,14 @@ abbrev pub past_star : Text → Lead → Lead
 past_star [] g = g
 past_star (c ∷ cs) g = flush
 
-one_word : (w x : Text) → texts.flag w x ≡ true → is_set x ≡ true → x ≡ w
+pub one_word : (w x : Text) → texts.flag w x ≡ true → is_set x ≡ true → x ≡ w
 one_word w [] h s = differ (sym s)
 one_word w (c ∷ cs) h s = same_text (c ∷ cs) w (or_by (is_text (c ∷ cs) w) false (λ e. e) (λ e. differ (sym e)) h)
+
+-- a flag is its word, or nothing
+pub by_flag : (w : Text) (P : Text → Type 0) → ((b : Bool) → P (flag b w)) → (x : Text) → texts.flag w x ≡ true → P x
+by_flag w P f [] h = f false
+by_flag w P f (c ∷ cs) h = subst P (sym (one_word w (c ∷ cs) h refl)) (f true)
 
 pub async_at : (x : Text) → texts.flag (codes "async") x ≡ true → (g : Lead) (rest : Text) → begins_gap rest ≡ false → Async x (led g (flag (is_set x) (codes "async ") ++ rest)) (led (past_async x g) rest)
 async_at [] h g rest b = no_async
@@ -102,14 +110,6 @@ function_is name into (async ∷ star ∷ []) (more id (more ps (more body none)
     function_opens [] a = refl
     function_opens (d ∷ ds) a = refl
 function_is name into xs ts f c i n = differ (sym f.counted)
-
--- the function of a method, without its flags
-pub method_is : (xs : List Text) (ts : Terms) → Fit (function_places Place.nothing) Kind.FunctionExpression xs ts → Kids (λ n. off) 0 ts → (P : List Text → Terms → Type 0) → ((async star : Text) (ps body : Term) → texts.flag (codes "async") async ≡ true → texts.flag (codes "*") star ≡ true → ((rest : Text) → is_opening (method_to (node Kind.FunctionExpression (async ∷ star ∷ []) (three absent ps body)) rest) ≡ true) → ((trails : Bool) (g : Lead) (rest : Text) → MethodFunction trails async star (wrapped true never (node Kind.FunctionExpression (async ∷ star ∷ []) (three absent ps body))) (led g (method_to (node Kind.FunctionExpression (async ∷ star ∷ []) (three absent ps body)) rest)) rest) → P (async ∷ star ∷ []) (three absent ps body)) → P xs ts
-method_is (async ∷ star ∷ []) (more absent (more ps (more body none))) f c P q =
-    q async star ps body f.spoken.0 f.spoken.1.0 (λ rest. parameters_open ps f.placed.1.0 (32 ∷ to true never body rest)) (λ trails g rest. method_function (parameters_at ps f.placed.1.0 c.1.0 trails g (32 ∷ to true never body rest)) (body_at body f.placed.1.1.0 c.1.1.0 spaced rest))
-method_is (async ∷ star ∷ []) (more (list us) (more ps (more body none))) f c P q = differ (sym f.placed.0)
-method_is (async ∷ star ∷ []) (more (node k ys us) (more ps (more body none))) f c P q = differ (sym f.placed.0)
-method_is xs ts f c P q = differ (sym f.counted)
 
 -- ---- arrows
 

@@ -11,6 +11,7 @@ use Rattle.js_syntax.specs.Printable.{has_shape}
 use Rattle.js_syntax.specs.Spelling.{Key, name_key, string_key, number_key, bigint_key, computed_key, MemberKey, public_key, private_key}
 use Rattle.print_layout.specs.Needs.{is_held}
 use Rattle.print_layout.specs.Layout.{put, wrapped}
+use Rattle.print_spelling.proofs.Openings.{is_starred, name_starred, number_starred, bigint_starred}
 use Rattle.print_spelling.proofs.Tokens.{differ, Lead, flush, led, name_at, private_at, number_at, bigint_at, string_at, left_bracket, right_bracket}
 use Rattle.print_spelling.proofs.Spread.{to}
 use Rattle.print_spelling.proofs.Fits.{Fit, fit_of, taken_by, plainly, is_special, is_program}
@@ -87,4 +88,42 @@ member_key_at false (node k texts ts) h c g rest e =
     elim (private_kind k (taken_by Sort.class_key k texts ts h).taken) [
       | inl same ↦ subst (λ j. has_shape (Place.one Sort.class_key) (node j texts ts) ≡ true → MemberKey false (wrapped true (loose 2) (node j texts ts)) (led g (to true (loose 2) (node j texts ts) rest)) rest) (sym same) (λ h. private_is texts ts (fit_of Sort.class_key Kind.PrivateIdentifier texts ts refl h).1 g rest e) h
       | inr is ↦ let p = key_plain k is in public_key (plain_key k texts ts is (plainly Sort.class_key k texts ts p.0 (fit_of Sort.class_key k texts ts p.1 h).1) g rest e)
+    ]
+
+-- ---- a key begins no gap, and a `*` may stand before it
+
+plain_starred : (k : Kind) (texts : List Text) (ts : Terms) → is_among k plain_keys ≡ true → Fit (places k texts) k texts ts → (rest : Text) → is_starred (to true (loose 2) (node k texts ts) rest) ≡ true
+plain_starred Kind.IdentifierName (x ∷ []) none h f rest = name_starred x rest f.spoken.0
+plain_starred Kind.IdentifierName texts ts h f rest = differ (sym f.counted)
+plain_starred Kind.StringLiteral (x ∷ []) none h f rest = refl
+plain_starred Kind.StringLiteral texts ts h f rest = differ (sym f.counted)
+plain_starred Kind.NumericLiteral (x ∷ []) none h f rest = number_starred x rest f.spoken.0
+plain_starred Kind.NumericLiteral texts ts h f rest = differ (sym f.counted)
+plain_starred Kind.BigIntLiteral (x ∷ []) none h f rest = bigint_starred x rest f.spoken.0
+plain_starred Kind.BigIntLiteral texts ts h f rest = differ (sym f.counted)
+plain_starred k texts ts h f rest = differ (sym h)
+
+abbrev pub Starred : Bool → Term → Type 0
+Starred computed t = (rest : Text) → is_starred (flag computed (codes "[") ++ to true (loose 2) t rest) ≡ true
+
+pub key_starred : (computed : Bool) (t : Term) → has_shape (key_place computed Sort.key) t ≡ true → Starred computed t
+key_starred true t h rest = refl
+key_starred false absent h rest = differ (sym h)
+key_starred false (list ts) h rest = differ (sym h)
+key_starred false (node k texts ts) h rest =
+    let is = (taken_by Sort.key k texts ts h).taken in
+    let p = key_plain k is in
+    plain_starred k texts ts is (plainly Sort.key k texts ts p.0 (fit_of Sort.key k texts ts p.1 h).1) rest
+
+private_starred : (texts : List Text) (ts : Terms) (rest : Text) → is_starred (to true (loose 2) (node Kind.PrivateIdentifier texts ts) rest) ≡ true
+private_starred texts ts rest = refl
+
+pub member_key_starred : (computed : Bool) (t : Term) → has_shape (key_place computed Sort.class_key) t ≡ true → Starred computed t
+member_key_starred true t h rest = refl
+member_key_starred false absent h rest = differ (sym h)
+member_key_starred false (list ts) h rest = differ (sym h)
+member_key_starred false (node k texts ts) h rest =
+    elim (private_kind k (taken_by Sort.class_key k texts ts h).taken) as (λ z. is_starred (to true (loose 2) (node k texts ts) rest) ≡ true) [
+      | inl same ↦ subst (λ j. is_starred (to true (loose 2) (node j texts ts) rest) ≡ true) (sym same) (private_starred texts ts rest)
+      | inr is ↦ let p = key_plain k is in plain_starred k texts ts is (plainly Sort.class_key k texts ts p.0 (fit_of Sort.class_key k texts ts p.1 h).1) rest
     ]

@@ -18,3 +18,4 @@ pub mod Patterns
 pub mod ObjectPatterns
 pub mod ObjectTargets
 pub mod Functions
+pub mod Objects

@@ -35,7 +35,7 @@ use Rattle.print_spelling.proofs.ObjectPatterns.{IsBound, bound_leaf, free_parts
 
 -- ---- one name for key and value
 
-bound_identifier : (s : sorts.Sort) (x : Text) (xs : List Text) (ts : Terms) → has_shape (Place.one s) (node Kind.Identifier xs ts) ≡ true → is_value_of x (node Kind.Identifier xs ts) ≡ true → IsBound Kind.Identifier x (node Kind.Identifier xs ts)
+pub bound_identifier : (s : sorts.Sort) (x : Text) (xs : List Text) (ts : Terms) → has_shape (Place.one s) (node Kind.Identifier xs ts) ≡ true → is_value_of x (node Kind.Identifier xs ts) ≡ true → IsBound Kind.Identifier x (node Kind.Identifier xs ts)
 bound_identifier s x xs ts h v = let f = plainly s Kind.Identifier xs ts refl (fit_of s Kind.Identifier xs ts refl h).1 in bound_leaf Kind.Identifier x xs ts f.counted f.spoken v
 
 bound_target : (x : Text) (p : Term) → has_shape (Place.one sorts.Sort.target) p ≡ true → is_value_of x p ≡ true → IsBound Kind.Identifier x p

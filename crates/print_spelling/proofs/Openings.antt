@@ -8,9 +8,9 @@ use Rattle.std.proofs.lemmas.Bool.Decides.{nat_tests}
 use Rattle.unicode_ident.proofs.Computing.{unicode_ident}
 use Rattle.js_chars.specs.Names.{is_identifier_start, is_identifier_name}
 use Rattle.js_term.specs.Term.{Text}
-use Rattle.js_term.specs.Lexeme.{between, is_digit, is_start, is_word}
+use Rattle.js_term.specs.Lexeme.{between, is_digit, is_start, is_word, is_one_of}
 use Rattle.js_syntax.specs.Lexical.{begins, begins_any, begins_gap, white_space, line_ends, is_ascii, is_name, up_to, onward, is_point, is_numeral, is_integer, is_radix_integer, is_mantissa, is_decimal_literal, is_e, are_digits, is_big_integer, without_last, passes}
-use Rattle.js_syntax.specs.Tokens.{opens_with, is_longest}
+use Rattle.js_syntax.specs.Tokens.{signs, opens_with, is_longest}
 use Rattle.js_syntax.proofs.Ascii.{from_table}
 use Rattle.js_syntax.proofs.Fronts.{name_start}
 
@@ -231,3 +231,32 @@ number_opening (c ∷ cs) rest e = front_opening c (cs ++ rest) (numeral_begins 
 pub bigint_opening : (x rest : Text) → is_big_integer x ≡ true → is_opening (x ++ rest) ≡ true
 bigint_opening [] rest e = absurd (false≢true e)
 bigint_opening (c ∷ cs) rest e = front_opening c (cs ++ rest) (bigint_begins c cs e)
+
+-- ---- a `*` before a key
+
+-- no gap, and a `*` before it is a sign
+abbrev pub is_starred : Text → Bool
+is_starred a = not (begins_gap a) && (is_one_of (codes "*") signs && (opens_with (codes "*") (42 ∷ a) && is_longest (codes "*") (42 ∷ a)))
+
+high_starred : (c : ℕ) (cs rest : Text) → is_ascii c ≡ false → is_identifier_name (chars (c ∷ cs)) ≡ true → is_starred (c ∷ (cs ++ rest)) ≡ true
+high_starred c cs rest high n =
+    rw (others_not white_space c cs rest white_others high n, others_not line_ends c cs rest line_others high n, others_not (codes "//" ∷ codes "/*" ∷ []) c cs rest refl high n, other_not (codes "*") c cs rest refl high n, other_not (codes "=") c cs rest refl high n, other_not (codes "*=") c cs rest refl high n) refl
+
+pub name_starred : (x rest : Text) → is_name x ≡ true → is_starred (x ++ rest) ≡ true
+name_starred [] rest e = absurd (false≢true e)
+name_starred (c ∷ cs) rest e =
+    elim (cases_lt c 128) as (λ z. is_starred (c ∷ (cs ++ rest)) ≡ true) [
+      | inl below ↦ from_table is_start (λ d. is_starred (d ∷ (cs ++ rest))) c refl below (name_start c cs (list_all is_ascii (c ∷ cs)) below e)
+      | inr above ↦ let high : is_ascii c ≡ false = grind (arith, nat_tests) in high_starred c cs rest high (high_name c cs high e)
+    ]
+
+front_starred : (c : ℕ) (rest : Text) → begins_number c ≡ true → is_starred (c ∷ rest) ≡ true
+front_starred c rest e = from_table begins_number (λ d. is_starred (d ∷ rest)) c refl (begins_below c e) e
+
+pub number_starred : (x rest : Text) → is_numeral x ≡ true → is_starred (x ++ rest) ≡ true
+number_starred [] rest e = absurd (false≢true e)
+number_starred (c ∷ cs) rest e = front_starred c (cs ++ rest) (numeral_begins c cs e)
+
+pub bigint_starred : (x rest : Text) → is_big_integer x ≡ true → is_starred (x ++ rest) ≡ true
+bigint_starred [] rest e = absurd (false≢true e)
+bigint_starred (c ∷ cs) rest e = front_starred c (cs ++ rest) (bigint_begins c cs e)

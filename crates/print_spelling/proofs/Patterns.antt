@@ -150,7 +150,7 @@ binding_rest r h c = only Kind.BindingRestElement (λ z. Claim off z → (g : Le
     by [] (more p none) f c g rest s = rest_binding (dots_at g) (pattern_at p f.placed.0 c.0 flush rest s)
     by texts ts f c g rest s = differ (sym f.counted)
 
-closing_flag : (b : Bool) (rest : Text) → flag b (codes ",") ++ rest ≡ closing b rest
+pub closing_flag : (b : Bool) (rest : Text) → flag b (codes ",") ++ rest ≡ closing b rest
 closing_flag true rest = refl
 closing_flag false rest = refl
 
