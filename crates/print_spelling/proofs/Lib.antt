@@ -19,3 +19,4 @@ pub mod ObjectPatterns
 pub mod ObjectTargets
 pub mod Functions
 pub mod Objects
+pub mod Bodies
