@@ -20,3 +20,4 @@ pub mod ObjectTargets
 pub mod Functions
 pub mod Objects
 pub mod Bodies
+pub mod Statements
