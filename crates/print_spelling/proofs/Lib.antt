@@ -21,3 +21,4 @@ pub mod Functions
 pub mod Objects
 pub mod Bodies
 pub mod Statements
+pub mod Heads
