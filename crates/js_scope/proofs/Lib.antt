@@ -1,0 +1,4 @@
+pub mod Keyed
+pub mod Edits
+pub mod Listing
+pub mod Moving
