@@ -69,14 +69,15 @@ assignment_read {i} {n} {op} {t} {e} {q} {a} {b} {c} {d} is allowed x tok r =
     let binds_is : sign_binds op ≡ 2 = eqb-true (sign_binds op) 2 (among (λ s. nat_eq (sign_binds s) 2) assignment_operators op refl is) in
     let needs_is : sign_needs op ≡ 19 = eqb-true (sign_needs op) 19 (among (λ s. nat_eq (sign_needs s) 19) assignment_operators op refl is) in
     joined_read 1 left
-        (sign_joins tok (omega arith) (gives_two f.level op is binds_is) (omega arith) (not-true (is_update op) (among (λ s. not (is_update s)) assignment_operators op refl is)) (no_coalesce f.level op is) (not-true (is_text op (codes "=>")) (among (λ s. not (is_text s (codes "=>"))) assignment_operators op refl is)))
-        (quiet_other f.tree b (sees_by (codes "(") tok ∙ not-true (is_text op (codes "(")) (among (λ s. not (is_text s (codes "("))) assignment_operators op refl is)))
-        (omega arith) (omega arith) (omega arith) (omega arith) (let k = left.calls high in omega arith) (let s = tok.shorter in let s' = r.shorter in omega arith)
-        (ends_low r.ends) (omega arith) (λ h. absurd (omega arith)) (λ h. absurd (omega arith)) (λ h. absurd (omega arith))
-        (λ limit fits h. assignment_there limit f op is (x.assigned op allowed) tok r (omega arith) h)
+    (sign_joins tok (omega arith) (gives_two f.level op is binds_is) (omega arith) (not-true (is_update op) (among (λ s. not (is_update s)) assignment_operators op refl is)) (no_coalesce f.level op is) (not-true (is_text op (codes "=>")) (among (λ s. not (is_text s (codes "=>"))) assignment_operators op refl is)))
+    (quiet_other f.tree b (sees_by (codes "(") tok ∙ not-true (is_text op (codes "(")) (among (λ s. not (is_text s (codes "("))) assignment_operators op refl is)))
+    (omega arith) (omega arith) (omega arith) (omega arith) (let k = left.calls high in omega arith) (let s = tok.shorter in let s' = r.shorter in omega arith)
+    (ends_low r.ends) (omega arith) (λ h. absurd (omega arith)) (λ h. absurd (omega arith)) (λ h. absurd (omega arith))
+    (λ limit fits h. assignment_there limit f op is (x.assigned op allowed) tok r (omega arith) h)
   where
     gives_two : (n : ℕ) (op : Text) → is_one_of op assignment_operators ≡ true → sign_binds op ≡ 2 → sign_gives n op ≡ 2
     gives_two n op is e = ap (λ (z : Bool). if z then member_level n else sign_binds op) (not-true (is_one_of op (codes "[" ∷ codes "." ∷ [])) (among (λ s. not (is_one_of s (codes "[" ∷ codes "." ∷ []))) assignment_operators op refl is)) ∙ e
+
     no_coalesce : (n : ℕ) (op : Text) → is_one_of op assignment_operators ≡ true → not (is_text op (codes "??")) || is_coalesce_left n ≡ true
     no_coalesce n op is = rw (not-true (is_text op (codes "??")) (among (λ s. not (is_text s (codes "??"))) assignment_operators op refl is)) refl
 
@@ -122,7 +123,7 @@ arrow_there limit async ps x fits h = rw (x.reads limit fits h)
 pub arrow_read : {i : Bool} {async : Text} {ps t : Term} {a b c d : Text} → HeadRead async ps a b → same_line b ≡ true → Seen (sign (codes "=>")) b c → ArrowBodyRead i t c d → IsRead i (depth (marked Kind.ArrowFunctionExpression async (two ps t))) (closed (marked Kind.ArrowFunctionExpression async (two ps t)) 2) a d
 arrow_read {i} {async} {ps} x line tok y =
     lower_read 1 (let s1 = x.shorter in let s2 = tok.shorter in let s3 = y.shorter in omega arith) (omega arith) (omega arith) y.ends (omega arith) (λ h. absurd (omega arith)) (λ h. absurd (omega arith)) (λ h. absurd (omega arith))
-        (λ limit least low fits h. x.reads i limit least low (omega arith) line tok ∙ arrow_there limit async ps y (omega arith) h)
+    (λ limit least low fits h. x.reads i limit least low (omega arith) line tok ∙ arrow_there limit async ps y (omega arith) h)
 
 arrow_seen : {b c : Text} → same_line b ≡ true → Seen (sign (codes "=>")) b c → arrow_here b ≡ true
 unfolding arrow_here

@@ -212,8 +212,8 @@ unfolding goes_on holds
 stops i least k f x b (is_full e) h below low = plainly_stops i least k f.level b (subst (λ y. holds i y k b ≡ true) e h) below low
 stops i least k f x b (is_updated e top) h below low =
     either_case (nat_le (tightness i b) k) (is_access_at (lexeme b)) (subst (λ y. holds i y k b ≡ true) e h)
-        (λ z. plainly_stops i least k f.level b z below low)
-        (λ z. access_stops i least f.level (lexeme b) (same_line b) z top)
+    (λ z. plainly_stops i least k f.level b z below low)
+    (λ z. access_stops i least f.level (lexeme b) (same_line b) z top)
 stops i least k f x b (is_loose e top) h below low = least_stops i least f.level (lexeme b) (same_line b) top
 
 -- ---- what ends an expression may follow it

@@ -133,7 +133,7 @@ parenthesized_read {i} {es} {d = d} tok x tok' =
     let l = x.list in
     let deep = depths_joined es in
     first_read refl refl (let s1 = tok.shorter in let g = l.reads (depths (all es)) (omega arith) in let s2 = g.short in let s3 = tok'.shorter in omega arith) (omega arith)
-        (λ limit least fits low h q. parenthesized_begun (read limit) i least tok ∙ parenthesized_there i limit x (omega arith) tok' (no_arrow d h))
+    (λ limit least fits low h q. parenthesized_begun (read limit) i least tok ∙ parenthesized_there i limit x (omega arith) tok' (no_arrow d h))
 
 several_joined : (es : List Term) → is_several es ≡ true → joined es ≡ sequence_of (all es)
 several_joined [] h = absurd (false≢true h)
@@ -255,5 +255,5 @@ tagged_read {i} {n} {t} {p} {b = b} high left x =
     let r1 = range.1 in
     let r2 = range.2 in
     joined_read 21 left (template_joins tok high) (quiet_other t b (template_no_paren b tok)) (omega arith) (omega arith) r1 (omega arith) (left.calls high) x.shorter
-        (is_full refl) (omega arith) (λ h. omega arith) (λ h h'. omega arith) (λ h. omega arith)
-        (λ limit fits h. template_extends (read limit) i t n p b tok ∙ ap (λ r. r >>= λ q c. Some (closed (of_parts Kind.TaggedTemplateExpression t (template_tree q)) (member_level n), c)) (x.reads limit (omega arith)))
+    (is_full refl) (omega arith) (λ h. omega arith) (λ h h'. omega arith) (λ h. omega arith)
+    (λ limit fits h. template_extends (read limit) i t n p b tok ∙ ap (λ r. r >>= λ q c. Some (closed (of_parts Kind.TaggedTemplateExpression t (template_tree q)) (member_level n), c)) (x.reads limit (omega arith)))

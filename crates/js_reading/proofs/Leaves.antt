@@ -65,10 +65,23 @@ async_there sub i least b h calm = go (same_line b) refl
 -- a name that is not `async`
 pub plain_there : (sub : Goal → Text → Reading Found) (i : Bool) (least : ℕ) (x b : Text) → is_reserved x ≡ false → is_text x (codes "async") ≡ false → word_prefix sub i least x b ≡ named sub i x b
 plain_there sub i least x b free other = rw (
-    not_text x (codes "function") free refl, not_text x (codes "class") free refl, other, not_text x (codes "new") free refl, not_text x (codes "import") free refl,
-    not_text x (codes "super") free refl, not_text x (codes "await") free refl, not_text x (codes "yield") free refl, not_text x (codes "delete") free refl,
-    not_text x (codes "void") free refl, not_text x (codes "typeof") free refl, not_text x (codes "this") free refl, not_text x (codes "null") free refl,
-    not_text x (codes "true") free refl, not_text x (codes "false") free refl, free)
+  not_text x (codes "function") free refl,
+  not_text x (codes "class") free refl,
+  other,
+  not_text x (codes "new") free refl,
+  not_text x (codes "import") free refl,
+  not_text x (codes "super") free refl,
+  not_text x (codes "await") free refl,
+  not_text x (codes "yield") free refl,
+  not_text x (codes "delete") free refl,
+  not_text x (codes "void") free refl,
+  not_text x (codes "typeof") free refl,
+  not_text x (codes "this") free refl,
+  not_text x (codes "null") free refl,
+  not_text x (codes "true") free refl,
+  not_text x (codes "false") free refl,
+  free,
+)
 
 pub name_prefix : (sub : Goal → Text → Reading Found) (i : Bool) (least : ℕ) {x a b : Text} → is_reserved x ≡ false → Seen (word x) a b → takes_name b ≡ false → (is_text x (codes "async") ≡ true → same_line b ≡ true → (nat_le least 2 && sees (codes "(") b) ≡ false) → prefix sub i least a ≡ Some (closed (identifier_of x) 21, b)
 name_prefix sub i least {x} {a} {b} free tok h calm = word_there sub i least tok ∙ go (is_text x (codes "async")) refl

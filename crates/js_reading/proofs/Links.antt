@@ -163,8 +163,8 @@ dot_read {i} {n} {o} {e} {p} high object x =
     let r2 = range.2 in
     let ends = x.ends in
     joined_read 21 object (sign_joins tok (omega arith) refl high refl refl refl) (quiet_other o _ (sees_by (codes "(") tok)) (let d = x.deep in omega arith) (omega arith) r1 (omega arith) (object.calls high) (let s = tok.shorter in let s' = x.shorter in omega arith)
-        (is_full ends) (omega arith) (λ h. omega arith) (λ h h'. omega arith) (λ h. omega arith)
-        (λ limit fits h. extends_sign (read limit) i o n p tok refl ∙ ap (λ r. r >>= at (member_level n)) (x.reads limit fits))
+    (is_full ends) (omega arith) (λ h. omega arith) (λ h h'. omega arith) (λ h. omega arith)
+    (λ limit fits h. extends_sign (read limit) i o n p tok refl ∙ ap (λ r. r >>= at (member_level n)) (x.reads limit fits))
 
 pub bracket_read : {i : Bool} {n : ℕ} {o e : Term} {p : Bool} {a b c : Text} → 19 ≤ n → IsRead i (depth o) (whole o n p) a b → LinkRead (codes "[") o e b c → IsRead i (depth e) (closed e (member_level n)) a c
 bracket_read {i} {n} {o} {e} {p} high object x =
@@ -175,16 +175,16 @@ bracket_read {i} {n} {o} {e} {p} high object x =
     let r2 = range.2 in
     let ends = x.ends in
     joined_read 21 object (sign_joins tok (omega arith) refl high refl refl refl) (quiet_other o _ (sees_by (codes "(") tok)) (let d = x.deep in omega arith) (omega arith) r1 (omega arith) (object.calls high) (let s = tok.shorter in let s' = x.shorter in omega arith)
-        (is_full ends) (omega arith) (λ h. omega arith) (λ h h'. omega arith) (λ h. omega arith)
-        (λ limit fits h. extends_sign (read limit) i o n p tok refl ∙ ap (λ r. r >>= at (member_level n)) (x.reads limit fits))
+    (is_full ends) (omega arith) (λ h. omega arith) (λ h h'. omega arith) (λ h. omega arith)
+    (λ limit fits h. extends_sign (read limit) i o n p tok refl ∙ ap (λ r. r >>= at (member_level n)) (x.reads limit fits))
 
 -- a call of anything but the name `async`
 pub plain_call_read : {i : Bool} {n : ℕ} {f : Term} {es : List Term} {p : Bool} {a b c : Text} → 19 ≤ n → quiet f b ≡ true → IsRead i (depth f) (whole f n p) a b → ArgumentsRead es b c → IsRead i (depth (call_link false f (all es))) (closed (call_link false f (all es)) 19) a c
 plain_call_read {i} {n} {f} {es} {p} high q callee x =
     let tok = x.tok in
     joined_read 21 callee (sign_joins tok (omega arith) refl high refl refl refl) q (omega arith) (omega arith) (omega arith) (omega arith) (callee.calls high) (let s = tok.shorter in let s' = x.shorter in omega arith)
-        (is_full refl) (omega arith) (λ h. omega arith) (λ h h'. absurd (omega arith)) (λ h. omega arith)
-        (λ limit fits h. extends_sign (read limit) i f n p tok refl ∙ ap (λ r. r >>= at 19) (called_there false f limit x (omega arith)))
+    (is_full refl) (omega arith) (λ h. omega arith) (λ h h'. absurd (omega arith)) (λ h. omega arith)
+    (λ limit fits h. extends_sign (read limit) i f n p tok refl ∙ ap (λ r. r >>= at 19) (called_there false f limit x (omega arith)))
 
 -- ---- chains (13.3.9)
 
@@ -299,5 +299,5 @@ chain_read {i} {e} {a} {b} r =
     let high = r.high in
     let base = r.read_base in
     joined_read 17 base (sign_joins tok (omega arith) refl high refl refl refl) (quiet_other r.base r.text (sees_by (codes "(") tok)) (let d = r.deep in omega arith) (omega arith) (omega arith) (omega arith) (let c = base.calls high in omega arith) (let s = tok.shorter in let s' = r.shorter in omega arith)
-        (is_full refl) (omega arith) (λ h. omega arith) (λ h h'. absurd (omega arith)) (λ h. absurd (omega arith))
-        (λ limit fits h. extends_sign (read limit) i r.base r.level r.barred tok refl ∙ chain_there limit (r.run limit (omega arith)) (no_link i b h))
+    (is_full refl) (omega arith) (λ h. omega arith) (λ h h'. absurd (omega arith)) (λ h. absurd (omega arith))
+    (λ limit fits h. extends_sign (read limit) i r.base r.level r.barred tok refl ∙ chain_there limit (r.run limit (omega arith)) (no_link i b h))

@@ -108,6 +108,7 @@ regexp_opens {a = a} tok brace plain = record {
     slash_starts (Some (template_head x)) h = absurd (false≢true h)
     slash_starts (Some (template_middle x)) h = absurd (false≢true h)
     slash_starts (Some (template_tail x)) h = absurd (false≢true h)
+
     slash_brace : (o : Option Lexeme) → is_slash_sign o ≡ true → is_sign (codes "{") o ≡ false
     slash_brace None h = refl
     slash_brace (Some (sign s)) h = not-true _ (among (λ t. not (is_text t (codes "{"))) (codes "/" ∷ codes "/=" ∷ []) s refl h)
