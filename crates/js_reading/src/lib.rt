@@ -1,6 +1,7 @@
 //! Reading a module as a function over texts, between the grammar of `js_syntax` and the code of the reader.
 #![tactic(auto)]
 
+ghost use Rattle.js_reading.specs.Examples.{Examples};
 ghost use Rattle.js_reading.specs.Laws.{Sound};
 
 mod goal;
@@ -11,4 +12,10 @@ pub use goal::Goal;
 #[tactic(auto, using(crate::proofs::Sound::sound))]
 pub fn what_is_read_is_spelled()
     ensures { Sound }
+{}
+
+/// The worked texts are read, and small texts that spell no module are not.
+#[tactic(auto, using(crate::proofs::Derived::examples))]
+pub fn worked_texts()
+    ensures { Examples }
 {}
