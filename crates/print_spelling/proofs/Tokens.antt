@@ -7,6 +7,7 @@ use Rattle.js_term.specs.Term.{Text, is_text}
 use Rattle.js_term.specs.Lexeme.{is_part, is_one_of}
 use Rattle.js_syntax.specs.Lexical.{begins, begins_any, begins_gap, is_ascii, is_name, begins_part, begins_start_or_digit, first_passes, is_integer, is_point, is_numeral, is_big_integer, decoded}
 use Rattle.js_syntax.specs.Tokens.{Gap, no_gap, blank, line_end, Front, SameLine, Lexeme, word, private_name, number, big_integer, string, sign, signs, opens_with, is_longest, Lexed, is_word, is_private_name, is_number, is_bigint, is_string, is_punctuator, Token, Word, Sign}
+use Rattle.print_spelling.specs.Laws.{Strings}
 use Rattle.print_layout.specs.Rows as rows
 use Rattle.print_layout.specs.Rows.{all_escaped, quoted}
 use Rattle.print_spelling.proofs.Openings.{is_fresh, sum_signs, is_opening, is_point_sign, name_opening, number_opening, bigint_opening, name_after_point}
@@ -171,3 +172,6 @@ pub string_at : (g : Lead) {value rest : Text} → Token (led g (quoted value ++
 string_at g {value} {rest} =
     subst (λ a. Token (led g (39 ∷ a)) (string (quoted value) value) rest) (sym (append_assoc (all_escaped value) (39 ∷ []) rest))
     (token_of g refl (is_string {quote = 39} (all_escaped value) refl (characters value)))
+
+pub printed_strings : Strings
+printed_strings value rest = string_at flush {value = value} {rest = rest}
