@@ -92,10 +92,10 @@ shorthand_binding x absent h c v = differ (sym h)
 shorthand_binding x (list ts) h c v = differ (sym h)
 shorthand_binding x (node k xs ts) h c v = elim (element_kind k (taken_by sorts.Sort.pattern_element k xs ts h).taken) as (λ z. ShorthandAt x (node k xs ts)) [
   | inl e ↦ subst (λ j. has_shape (Place.one sorts.Sort.pattern_element) (node j xs ts) ≡ true → Claim off (node j xs ts) → is_value_of x (node j xs ts) ≡ true → ShorthandAt x (node j xs ts)) (sym e)
-    (λ h c v. bound_default x xs ts (fit_of sorts.Sort.pattern_element Kind.AssignmentPattern xs ts refl h).1 c.1 v) h c v
+      (λ h c v. bound_default x xs ts (fit_of sorts.Sort.pattern_element Kind.AssignmentPattern xs ts refl h).1 c.1 v) h c v
   | inr is ↦ elim (pattern_kind k is) as (λ z. ShorthandAt x (node k xs ts)) [
     | inl e ↦ subst (λ j. has_shape (Place.one sorts.Sort.pattern_element) (node j xs ts) ≡ true → is_value_of x (node j xs ts) ≡ true → ShorthandAt x (node j xs ts)) (sym e)
-      (λ h v. let f = (fit_of sorts.Sort.pattern_element Kind.BindingIdentifier xs ts refl h).1 in bound_alone x (node Kind.BindingIdentifier xs ts) (bound_leaf Kind.BindingIdentifier x xs ts f.counted f.spoken v)) h v
+        (λ h v. let f = (fit_of sorts.Sort.pattern_element Kind.BindingIdentifier xs ts refl h).1 in bound_alone x (node Kind.BindingIdentifier xs ts) (bound_leaf Kind.BindingIdentifier x xs ts f.counted f.spoken v)) h v
     | inr r ↦ elim r as (λ z. ShorthandAt x (node k xs ts)) [
       | inl e ↦ subst (λ j. is_value_of x (node j xs ts) ≡ true → ShorthandAt x (node j xs ts)) (sym e) (λ v. differ (sym v)) v
       | inr e ↦ subst (λ j. is_value_of x (node j xs ts) ≡ true → ShorthandAt x (node j xs ts)) (sym e) (λ v. differ (sym v)) v

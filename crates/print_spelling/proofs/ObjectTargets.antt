@@ -30,7 +30,6 @@ use Rattle.print_spelling.proofs.Lists.{ItemAt, one_whole, whole_list, last_pres
 use Rattle.print_spelling.proofs.Keys.{key_at}
 use Rattle.print_spelling.proofs.Assignments.{target_at, simple_target_at, simple_is}
 use Rattle.print_spelling.proofs.Patterns.{with_rest, no_comma, pattern_kind, element_kind, target_element_kind, pattern_at, defaulted_at, defaulted_target_at}
-
 use Rattle.print_spelling.proofs.ObjectPatterns.{IsBound, bound_leaf, free_parts, key_name, no_name, pair_texts}
 
 -- ---- one name for key and value

@@ -258,6 +258,6 @@ property_of_kind kind rule x y z k v f c =
 pub property_rule : Rule Kind.ObjectProperty
 property_rule m (kind ∷ x ∷ y ∷ z ∷ []) (more k (more v none)) f c g rest e =
     let by : (w : Text) → PropertyRule w → is_text kind w ≡ true → PropertyIs (kind ∷ x ∷ y ∷ z ∷ []) k v = λ w rule h.
-      subst (λ u. Fit (places Kind.ObjectProperty (u ∷ x ∷ y ∷ z ∷ [])) Kind.ObjectProperty (u ∷ x ∷ y ∷ z ∷ []) (two k v) → PropertyIs (u ∷ x ∷ y ∷ z ∷ []) k v) (sym (same_text kind w h)) (λ f. property_of_kind w rule x y z k v f c) f in
+    subst (λ u. Fit (places Kind.ObjectProperty (u ∷ x ∷ y ∷ z ∷ [])) Kind.ObjectProperty (u ∷ x ∷ y ∷ z ∷ []) (two k v) → PropertyIs (u ∷ x ∷ y ∷ z ∷ []) k v) (sym (same_text kind w h)) (λ f. property_of_kind w rule x y z k v f c) f in
     or_by (is_text kind (codes "init")) _ (by (codes "init") init_rule) (λ h. or_by (is_text kind (codes "get")) _ (by (codes "get") get_rule) (λ h. or_by (is_text kind (codes "set")) false (by (codes "set") set_rule) (λ h. differ (sym h)) h) h) f.spoken.0 g rest e
 property_rule m texts ts f c g rest e = differ (sym f.counted)
