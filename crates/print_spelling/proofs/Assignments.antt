@@ -1,12 +1,11 @@
 -- Targets, updates and assignments (ECMAScript 13.4, 13.15).
-use Rattle.std.proofs.Common.{◌≡◌, refl, sym, ap, ◌∙◌, subst, ℕ, suc, zero, ◌≤◌, List, [], ◌∷◌, ◌++◌, Bool, true, false, not, cond, ◌&&◌, ◌||◌, nat_eq, inl, inr, ◌⊎◌, arith}
-use Rattle.std.specs.Prelude.{codes, if◌then◌else◌}
+use Rattle.std.proofs.Common.{◌≡◌, refl, sym, subst, ◌≤◌, List, [], ◌∷◌, ◌++◌, Bool, true, false, not, cond, ◌&&◌, ◌||◌, arith}
+use Rattle.std.specs.Prelude.{codes}
 use Rattle.std.proofs.lemmas.Bool.{and_parts, not-true}
 use Rattle.std.specs.List.{list_all}
 use Rattle.js_term.specs.Term.{Text, is_text, Term, absent, list, node, Terms, none, more, one, two}
 use Rattle.js_term.specs.declared.kind.Kind.{Kind}
 use Rattle.js_term.specs.Lexeme.{is_one_of}
-use Rattle.js_term.specs.Kinds.{is_among}
 use Rattle.js_syntax.specs.Lexical.{begins, begins_gap}
 use Rattle.js_syntax.specs.Tokens.{signs, opens_with, is_longest, Sign}
 use Rattle.js_syntax.specs.Edges as edges
@@ -17,16 +16,16 @@ use Rattle.js_syntax.specs.Sorts as sorts
 use Rattle.js_syntax.specs.Sorts.{Sort, Place, is_expression, takes}
 use Rattle.js_syntax.specs.Printable.{has_shape}
 use Rattle.js_syntax.specs.Levels.{level, level_first}
-use Rattle.js_syntax.specs.Spelling.{Stands, Target, simple_target, assignment, update_behind, update_before}
-use Rattle.print_layout.specs.Rows.{Piece, braces, meets}
-use Rattle.print_layout.specs.Needs.{is_looser, is_in, never}
+use Rattle.js_syntax.specs.Spelling.{Target, simple_target, assignment, update_behind, update_before}
+use Rattle.print_layout.specs.Rows.{Piece, braces}
+use Rattle.print_layout.specs.Needs.{is_in, never}
 use Rattle.print_layout.specs.Layout.{put, wrapped}
-use Rattle.print_spelling.proofs.Openings.{is_fresh, is_opening, sum_signs}
-use Rattle.print_spelling.proofs.Tokens.{differ, same_text, or_by, among, Lead, flush, spaced, led, stops, sign_at, same_line}
+use Rattle.print_spelling.proofs.Openings.{is_fresh, sum_signs}
+use Rattle.print_spelling.proofs.Tokens.{differ, same_text, or_by, among, Lead, flush, spaced, led, sign_at, same_line}
 use Rattle.print_spelling.proofs.Spread.{To, to, Written, spread_to}
-use Rattle.print_spelling.proofs.Fits.{Fit, taken_by}
-use Rattle.print_spelling.proofs.Claims.{bare, bare_to, closed, ends, through, Opens, opens_at, Expr, NodeExpr, ExpressionRule, of_stands, Claim, Kids, Mode, off, category, Meaning}
-use Rattle.print_spelling.proofs.Placed.{InPlace, in_place_node, expression_meaning, le_loose, At, at_by, loose, at, opens_tight, tight_meets}
+use Rattle.print_spelling.proofs.Fits.{taken_by}
+use Rattle.print_spelling.proofs.Claims.{bare, bare_to, ends, through, Opens, Expr, ExpressionRule, of_stands, Claim, off, category, Meaning}
+use Rattle.print_spelling.proofs.Placed.{in_place_node, expression_meaning, At, at_by, loose, at, opens_tight}
 use Rattle.print_spelling.proofs.Links.{member_high}
 
 -- ---- simple targets: an identifier or a member

@@ -1,26 +1,25 @@
 -- Lists of statements, blocks, directives and bodies of functions (ECMAScript 11.2.1, 14.2, 15.2).
-use Rattle.std.proofs.Common.{◌≡◌, refl, sym, ap, ◌∙◌, subst, ℕ, suc, zero, List, [], ◌∷◌, ◌++◌, append_assoc, Bool, true, false, not, cond, ◌&&◌, ◌||◌, inl, inr, ◌⊎◌}
-use Rattle.std.specs.Prelude.{codes, Option, None, Some, is_some, option_map, nat_eq, if◌then◌else◌}
-use Rattle.std.proofs.lemmas.Bool.{and_parts, not-true, eqb-true}
-use Rattle.js_term.specs.Term.{Text, Term, absent, list, node, Terms, none, more, one, two, all, flag}
+use Rattle.std.proofs.Common.{◌≡◌, refl, sym, ap, subst, ℕ, List, [], ◌∷◌, ◌++◌, append_assoc, Bool, true, false, ◌||◌}
+use Rattle.std.specs.Prelude.{Option, None, Some, is_some, option_map, nat_eq, if◌then◌else◌}
+use Rattle.std.proofs.lemmas.Bool.{and_parts, eqb-true}
+use Rattle.js_term.specs.Term.{Text, Term, absent, list, node, Terms, none, more}
 use Rattle.js_term.specs.declared.kind.Kind.{Kind}
 use Rattle.js_term.specs.Kinds.{is_among}
-use Rattle.js_term.specs.Lexeme.{is_quote, is_one_of}
+use Rattle.js_term.specs.Lexeme.{is_quote}
 use Rattle.js_syntax.specs.Lexical.{begins_gap, decoded, is_raw_string, without_last, passes}
 use Rattle.js_syntax.specs.Tokens.{Token, string, is_string}
-use Rattle.js_syntax.specs.Edges.{is_body, is_unnamed, begins_with_string, is_string_statement, is_string_kind, has_kind}
-use Rattle.js_syntax.specs.Nodes.{of_text, block_of, body_node}
-use Rattle.js_syntax.specs.Sorts.{Sort, Place, takes, suits, is_expression, plain_statements}
+use Rattle.js_syntax.specs.Edges.{is_unnamed, is_string_statement, is_string_kind, has_kind}
+use Rattle.js_syntax.specs.Sorts.{Sort, Place, takes, is_expression, plain_statements}
 use Rattle.js_syntax.specs.Printable.{has_shape}
-use Rattle.js_syntax.specs.Spelling.{Statement, Statements, no_statements, next_statement, declaration, function_declaration, class_declaration, block_statement, Block, block, Embedded, embedded, Body, body, Directives, no_directives, directive, written}
+use Rattle.js_syntax.specs.Spelling.{Statement, Statements, no_statements, next_statement, declaration, function_declaration, class_declaration, block_statement, Block, block, Embedded, embedded, body, Directives, no_directives, directive, written}
 use Rattle.print_layout.specs.Rows.{blank}
 use Rattle.print_layout.specs.Needs.{never, needs, leads, is_opener, is_held}
 use Rattle.print_layout.specs.Layout.{put, wrapped, each_wrapped}
 use Rattle.print_spelling.proofs.Tokens.{differ, or_by, Lead, flush, spaced, led, token_of, left_brace, right_brace, semicolon_at}
-use Rattle.print_spelling.proofs.Spread.{To, to, each_to, behind_to, separated_to}
+use Rattle.print_spelling.proofs.Spread.{to, each_to, separated_to}
 use Rattle.print_spelling.proofs.Fits.{Fit, fit_of, taken_by, list_shape, each_shaped}
 use Rattle.print_spelling.proofs.Shapes.{only, leaf}
-use Rattle.print_spelling.proofs.Claims.{bare, bare_to, Claim, Each, Kids, Mode, off, Rule, Meaning, category, Category, a_statement, an_expression, other_category}
+use Rattle.print_spelling.proofs.Claims.{bare, bare_to, Claim, Each, Kids, off, Rule, Meaning, a_statement, an_expression, other_category}
 use Rattle.print_spelling.proofs.Lists.{wrapped_present, one_whole}
 
 -- ---- statements in their places

@@ -1,32 +1,22 @@
 -- Members, calls, chains, templates (ECMAScript 13.3).
-use Rattle.std.proofs.Common.{◌≡◌, refl, sym, ap, ◌∙◌, subst, ℕ, suc, zero, ◌≤◌, List, [], ◌∷◌, ◌++◌, Bool, true, false, not, cond, ◌&&◌, ◌||◌, nat_eq, inl, inr, ◌⊎◌, arith}
-use Rattle.std.specs.Prelude.{codes, if◌then◌else◌}
-use Rattle.std.proofs.lemmas.Bool.{and_parts, not-true, eqb-true}
-use Rattle.js_term.specs.Term.{Text, is_text, Term, absent, list, node, Terms, none, more, one, two, all, flag}
+use Rattle.std.proofs.Common.{◌≡◌, refl, sym, subst, List, [], ◌∷◌, ◌++◌, Bool, true, false, ◌||◌, inl, inr, ◌⊎◌}
+use Rattle.std.specs.Prelude.{codes}
+use Rattle.js_term.specs.Term.{Text, Term, absent, list, node, Terms, none}
 use Rattle.js_term.specs.declared.kind.Kind.{Kind}
-use Rattle.js_term.specs.Lexeme.{is_one_of}
-use Rattle.js_term.specs.Node.{name_of}
-use Rattle.js_syntax.specs.Lexical.{is_name, begins}
-use Rattle.js_syntax.specs.Tokens.{Sign, Word}
-use Rattle.js_syntax.specs.Edges.{member_level, has_kind, is_private_member}
-use Rattle.js_syntax.specs.Parts.{is_set_at}
-use Rattle.js_syntax.specs.Nodes.{marked, alone, of_part, of_parts, super_of, call_link, static_link, computed_link, private_of, private_link, new_of}
-use Rattle.js_syntax.specs.Sorts as sorts
+use Rattle.js_syntax.specs.Edges.{has_kind}
+use Rattle.js_syntax.specs.Nodes.{super_of}
 use Rattle.js_syntax.specs.Sorts.{Sort, Place, is_expression, takes}
 use Rattle.js_syntax.specs.Printable.{has_shape, has_link}
-use Rattle.js_syntax.specs.Levels.{level, level_first}
 use Rattle.js_syntax.specs.Spelling as spelling
 use Rattle.js_syntax.specs.Spelling.{Stands, Item, an_argument, a_spread_argument, Spread, Group, Arguments, arguments, Access, static_access, computed_access, private_access, plain_dot, optional_dot, not_optional, is_optional, Dot, Optional, Link, access_link, argument_link, Spine, first_link, next_link, member, super_member, call, super_call, chain, construction, import_call, ImportOptions, no_options, options}
 use Rattle.print_layout.specs.Rows.{comma}
-use Rattle.print_layout.specs.Needs.{is_looser, is_number_kind, is_in, needs, never}
+use Rattle.print_layout.specs.Needs.{is_looser, is_number_kind}
 use Rattle.print_layout.specs.Layout.{wrapped, each_wrapped}
-use Rattle.print_spelling.proofs.Openings.{is_fresh, sum_signs}
-use Rattle.print_spelling.proofs.Tokens.{differ, or_false, or_by, among, Lead, flush, spaced, led, stops, sign_at, word_at, name_at, private_at, point_at, left_parenthesis, right_parenthesis, left_bracket, right_bracket, comma_at}
+use Rattle.print_spelling.proofs.Tokens.{differ, or_false, Lead, flush, led, left_parenthesis, right_parenthesis}
 use Rattle.print_spelling.proofs.Spread.{To, to, each_to, separated_to}
-use Rattle.print_spelling.proofs.Fits.{Fit, fit_of, taken_by, list_shape, each_shaped}
-use Rattle.print_spelling.proofs.Shapes.{leaf}
-use Rattle.print_spelling.proofs.Claims.{bare, bare_to, closed, ends, ends_stop, through, Opens, opens_at, Expr, NodeExpr, SpineExpr, NodeSpine, ExpressionRule, of_stands, Claim, Each, Kids, Mode, off, on, tagged, mode_inside, Linked, Meaning, category, Rule}
-use Rattle.print_spelling.proofs.Placed.{InPlace, in_place, in_place_node, expression_meaning, loose_le, le_loose, At, at, at_by, loose, opens_tight, closed_tight}
+use Rattle.print_spelling.proofs.Fits.{Fit, fit_of, taken_by, list_shape}
+use Rattle.print_spelling.proofs.Claims.{closed, ends, through, NodeExpr, Claim, Each, Mode, off, on, tagged, Linked}
+use Rattle.print_spelling.proofs.Placed.{InPlace, in_place_node, expression_meaning, loose_le, At, at_by, loose, closed_tight}
 use Rattle.print_spelling.proofs.Lists.{ItemAt, one_whole, whole_group}
 
 -- ---- arguments

@@ -1,6 +1,6 @@
 -- What is claimed of each printed node, by the category of its kind.
-use Rattle.std.proofs.Common.{◌≡◌, refl, sym, ap, ◌∙◌, subst, ℕ, suc, zero, ◌≤◌, List, [], ◌∷◌, ◌++◌, Bool, true, false, not, ◌&&◌, ◌||◌}
-use Rattle.std.specs.Prelude.{codes, if◌then◌else◌}
+use Rattle.std.proofs.Common.{◌≡◌, refl, sym, ◌∙◌, subst, ℕ, suc, zero, List, [], ◌∷◌, Bool, true, false, not, ◌&&◌, ◌||◌}
+use Rattle.std.specs.Prelude.{if◌then◌else◌}
 use Rattle.std.proofs.lemmas.Bool.{and_parts, not-true}
 use Rattle.js_term.specs.Term.{Text, is_text, Term, absent, list, node, Terms, none, more}
 use Rattle.js_term.specs.declared.kind.Kind.{Kind}
@@ -16,7 +16,7 @@ use Rattle.js_syntax.specs.Spelling.{Stands, parenthesized, Expression, single, 
 use Rattle.js_syntax.specs.Modules.{ModuleItem}
 use Rattle.js_syntax.specs.Tokens.{SameLine}
 use Rattle.print_layout.specs.Rows.{row, meets}
-use Rattle.print_layout.specs.Needs.{is_looser, is_in, is_held}
+use Rattle.print_layout.specs.Needs.{is_looser, is_in}
 use Rattle.print_layout.specs.Layout.{put, wrapped, wrapped_kids}
 use Rattle.print_spelling.proofs.Openings.{is_fresh, sum_signs, is_opening}
 use Rattle.print_spelling.proofs.Tokens.{differ, same_text, or_false, or_by, Lead, flush, spaced, led, stops, no_point, same_line, fresh_gap, left_parenthesis, right_parenthesis, opening_fresh}

@@ -1,12 +1,12 @@
 -- What a node that fits its place is: its texts and its parts by their number.
-use Rattle.std.proofs.Common.{◌≡◌, refl, sym, ap, ◌∙◌, subst, ℕ, suc, zero, ◌+◌, ◌≤◌, List, [], ◌∷◌, Bool, true, false, ◌&&◌, nat_eq, arith}
+use Rattle.std.proofs.Common.{◌≡◌, refl, ap, ◌∙◌, subst, ℕ, suc, ◌+◌, List, [], ◌∷◌, Bool, true, false, ◌&&◌, nat_eq, arith}
 use Rattle.std.specs.Prelude.{length}
-use Rattle.std.proofs.lemmas.Bool.{and_parts, eqb-true, false≢true}
-use Rattle.js_term.specs.Term.{Text, Term, absent, list, node, Terms, none, more}
+use Rattle.std.proofs.lemmas.Bool.{and_parts, eqb-true}
+use Rattle.js_term.specs.Term.{Text, list, node, Terms, none, more}
 use Rattle.js_term.specs.declared.kind.Kind.{Kind}
 use Rattle.js_syntax.specs.Everywhere.{everywhere_kids, everywhere_each}
 use Rattle.js_syntax.specs.Parts.{count, text_at}
-use Rattle.js_syntax.specs.Sorts.{Sort, Place, takes_list, takes_absent, item_place, takes_node, takes, suits, stands}
+use Rattle.js_syntax.specs.Sorts.{Sort, Place, takes_list, takes_absent, item_place, takes, suits}
 use Rattle.js_syntax.specs.Places.{place_at, places_at, places, are_as_many}
 use Rattle.js_syntax.specs.Texts.{tests, pass, pass_from, has_texts}
 use Rattle.js_syntax.specs.Printable.{has_shape, fits, place_inside, is_sound}

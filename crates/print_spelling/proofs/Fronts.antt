@@ -1,5 +1,5 @@
 -- What an expression's text begins with, where its place asks.
-use Rattle.std.proofs.Common.{◌≡◌, refl, sym, ap, ◌∙◌, subst, ℕ, suc, zero, List, [], ◌∷◌, Bool, true, false, not, ◌&&◌, ◌||◌}
+use Rattle.std.proofs.Common.{◌≡◌, refl, sym, ◌∙◌, subst, List, Bool, true, false, not, ◌&&◌, ◌||◌}
 use Rattle.std.specs.Prelude.{if◌then◌else◌}
 use Rattle.js_term.specs.Term.{Text, Term, absent, list, node, Terms, none, more}
 use Rattle.js_term.specs.declared.kind.Kind.{Kind}

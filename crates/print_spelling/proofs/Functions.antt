@@ -1,8 +1,8 @@
 -- Functions, arrows and the functions of methods (ECMAScript 15.2 to 15.4, 15.8).
-use Rattle.std.proofs.Common.{◌≡◌, refl, sym, ap, ◌∙◌, subst, ℕ, suc, zero, List, [], ◌∷◌, ◌++◌, Bool, true, false, not, cond, ◌&&◌, ◌||◌, inl, inr, ◌⊎◌}
-use Rattle.std.specs.Prelude.{codes, if◌then◌else◌}
+use Rattle.std.proofs.Common.{◌≡◌, refl, sym, subst, List, [], ◌∷◌, ◌++◌, Bool, true, false, not, ◌&&◌, ◌||◌, inl, inr, ◌⊎◌}
+use Rattle.std.specs.Prelude.{codes}
 use Rattle.std.proofs.lemmas.Bool.{and_parts, not-true}
-use Rattle.js_term.specs.Term.{Text, is_text, Term, absent, list, node, Terms, none, more, one, two, flag}
+use Rattle.js_term.specs.Term.{Text, is_text, Term, absent, list, node, Terms, none, more, flag}
 use Rattle.js_term.specs.declared.kind.Kind.{Kind}
 use Rattle.js_term.specs.Lexeme.{is_reserved, is_one_of}
 use Rattle.js_syntax.specs.Tokens.{signs, opens_with, is_longest}
@@ -11,21 +11,21 @@ use Rattle.js_syntax.specs.Lexical.{begins_gap, is_name}
 use Rattle.js_syntax.specs.Texts as texts
 use Rattle.js_syntax.specs.Texts.{is_free_name}
 use Rattle.js_syntax.specs.Parts.{is_set, is_present}
-use Rattle.js_syntax.specs.Nodes.{three, marked, function_node}
+use Rattle.js_syntax.specs.Nodes.{function_node}
 use Rattle.js_syntax.specs.Sorts.{Sort, Place, is_expression, takes}
 use Rattle.js_syntax.specs.Places.{places, function_places}
 use Rattle.js_syntax.specs.Printable.{has_shape}
-use Rattle.js_syntax.specs.Spelling.{Stands, Async, no_async, with_async, Star, no_star, with_star, Naming, unnamed, named, Parameters, Body, FunctionText, function, MethodFunction, method_function, ArrowHead, arrow_parameters, arrow_async, ArrowBody, block_body, concise_body, arrow, function_expression}
-use Rattle.print_layout.specs.Needs.{never, is_looser, leads, is_held}
+use Rattle.js_syntax.specs.Spelling.{Async, no_async, with_async, no_star, with_star, Naming, unnamed, named, Parameters, Body, FunctionText, function, ArrowHead, arrow_parameters, arrow_async, ArrowBody, block_body, concise_body, arrow, function_expression}
+use Rattle.print_layout.specs.Needs.{never, is_looser, leads}
 use Rattle.js_syntax.specs.Edges.{is_brace_kind}
-use Rattle.print_layout.specs.Layout.{put, wrapped}
+use Rattle.print_layout.specs.Layout.{wrapped}
 use Rattle.print_spelling.proofs.Openings.{is_opening}
 use Rattle.print_spelling.proofs.Tokens.{differ, same_text, or_false, or_by, Lead, flush, spaced, led, stops, sign_at, word_at, name_at, same_line, opening_gap}
-use Rattle.print_spelling.proofs.Spread.{To, to, held_to, method_to}
+use Rattle.print_spelling.proofs.Spread.{To, to}
 use Rattle.print_spelling.proofs.Fits.{Fit, fit_of, taken_by}
 use Rattle.print_spelling.proofs.Shapes.{only, leaf}
-use Rattle.print_spelling.proofs.Claims.{bare, bare_to, closed, ends, ends_stop, through, opens_at, Expr, NodeExpr, ExpressionRule, of_stands, Claim, Kids, Mode, off, Rule}
-use Rattle.print_spelling.proofs.Placed.{InPlace, in_place_node, expression_meaning, loose_le, At, at_by}
+use Rattle.print_spelling.proofs.Claims.{bare, bare_to, ends, through, opens_at, NodeExpr, ExpressionRule, of_stands, Claim, Kids, off}
+use Rattle.print_spelling.proofs.Placed.{in_place_node, expression_meaning, loose_le, at_by}
 use Rattle.print_spelling.proofs.Fronts.{opens_body}
 
 -- ---- parameters and bodies

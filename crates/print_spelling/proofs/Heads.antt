@@ -1,27 +1,24 @@
 -- The heads of `for`, and `switch` (ECMAScript 14.7.4, 14.7.5, 14.12).
-use Rattle.std.proofs.Common.{◌≡◌, refl, sym, ap, ◌∙◌, subst, ℕ, suc, zero, List, [], ◌∷◌, ◌++◌, Bool, true, false, not, cond, ◌&&◌, ◌||◌, inl, inr, ◌⊎◌, arith}
+use Rattle.std.proofs.Common.{◌≡◌, refl, sym, ap, ◌∙◌, subst, ℕ, suc, List, [], ◌∷◌, ◌++◌, Bool, true, false, not, cond, ◌||◌, inl, inr, ◌⊎◌, arith}
 use Rattle.std.specs.Prelude.{codes, nat_le, nat_eq}
 use Rattle.std.proofs.lemmas.Bool.{and_parts, not-true, eqb-true}
-use Rattle.js_term.specs.Term.{Text, is_text, Term, absent, list, node, Terms, none, more, one, two, all, flag}
+use Rattle.js_term.specs.Term.{Text, Term, absent, list, node, Terms, none, more, two, all, flag}
 use Rattle.js_term.specs.declared.kind.Kind.{Kind}
 use Rattle.js_term.specs.Lexeme.{is_one_of}
-use Rattle.js_term.specs.Kinds.{is_kind}
-use Rattle.js_syntax.specs.Texts as texts
-use Rattle.js_syntax.specs.Parts.{is_present, is_node, text_of, count, count_if, parts_of}
-use Rattle.js_syntax.specs.Nodes.{variables_of, declarator_of, case_of}
+use Rattle.js_syntax.specs.Parts.{is_present, count, count_if}
+use Rattle.js_syntax.specs.Nodes.{variables_of}
 use Rattle.js_syntax.specs.Sorts as sorts
 use Rattle.js_syntax.specs.Sorts.{Place, is_expression, takes, is_target}
-use Rattle.js_syntax.specs.Places.{places}
-use Rattle.js_syntax.specs.Printable.{has_shape, is_named, is_default, is_switch, is_for_of}
-use Rattle.js_syntax.specs.Spelling.{Statement, for_statement, for_in, for_of_statement, for_await, ForInit, no_init, init_variables, init_expression, Perhaps, perhaps_not, perhaps, ForLeft, left_variable, left_target, Variables, Pattern, switch_statement, Cases, no_cases, next_case, default_case, no_statements}
-use Rattle.print_layout.specs.Rows.{comma, blank}
+use Rattle.js_syntax.specs.Printable.{has_shape, is_named, is_default}
+use Rattle.js_syntax.specs.Spelling.{Statement, for_statement, for_in, for_of_statement, for_await, ForInit, no_init, init_variables, init_expression, Perhaps, perhaps_not, perhaps, ForLeft, left_variable, left_target, switch_statement, Cases, no_cases, next_case, default_case, no_statements}
+use Rattle.print_layout.specs.Rows.{blank}
 use Rattle.print_layout.specs.Needs.{never, needs, inside, is_held}
 use Rattle.print_layout.specs.Layout.{put, wrapped, each_wrapped}
-use Rattle.print_spelling.proofs.Tokens.{differ, or_by, same_text, Lead, flush, spaced, led, stops, word_at, left_parenthesis, right_parenthesis, left_brace, right_brace, semicolon_at, colon_at}
-use Rattle.print_spelling.proofs.Spread.{To, to, each_to, separated_to}
+use Rattle.print_spelling.proofs.Tokens.{differ, Lead, flush, spaced, led, word_at, left_parenthesis, right_parenthesis, left_brace, right_brace, semicolon_at, colon_at}
+use Rattle.print_spelling.proofs.Spread.{to, each_to, separated_to}
 use Rattle.print_spelling.proofs.Fits.{Fit, fit_of, taken_by, list_shape, each_shaped}
 use Rattle.print_spelling.proofs.Shapes.{kind_is, only}
-use Rattle.print_spelling.proofs.Claims.{bare, bare_to, ends, Claim, Each, Kids, Mode, off, Rule}
+use Rattle.print_spelling.proofs.Claims.{bare, bare_to, Claim, Each, Kids, off, Rule}
 use Rattle.print_spelling.proofs.Placed.{in_place, in_place_node, expression_meaning, at}
 use Rattle.print_spelling.proofs.Assignments.{target_by}
 use Rattle.print_spelling.proofs.Functions.{by_flag}

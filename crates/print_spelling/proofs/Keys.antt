@@ -1,7 +1,7 @@
 -- Keys of properties (ECMAScript 13.2.5, 15.7).
-use Rattle.std.proofs.Common.{◌≡◌, refl, sym, ap, ◌∙◌, subst, ℕ, List, [], ◌∷◌, ◌++◌, Bool, true, false, not, ◌&&◌, ◌||◌, inl, inr, ◌⊎◌}
+use Rattle.std.proofs.Common.{◌≡◌, refl, sym, subst, List, [], ◌∷◌, ◌++◌, Bool, true, false, inl, inr, ◌⊎◌}
 use Rattle.std.specs.Prelude.{codes}
-use Rattle.js_term.specs.Term.{Text, Term, absent, list, node, Terms, none, more, flag}
+use Rattle.js_term.specs.Term.{Text, Term, absent, list, node, Terms, none, flag}
 use Rattle.js_term.specs.declared.kind.Kind.{Kind}
 use Rattle.js_term.specs.Kinds.{is_among}
 use Rattle.js_syntax.specs.Edges.{no_private, is_private_key}
@@ -15,7 +15,7 @@ use Rattle.print_spelling.proofs.Openings.{is_starred, name_starred, number_star
 use Rattle.print_spelling.proofs.Tokens.{differ, Lead, flush, led, name_at, private_at, number_at, bigint_at, string_at, left_bracket, right_bracket}
 use Rattle.print_spelling.proofs.Spread.{to}
 use Rattle.print_spelling.proofs.Fits.{Fit, fit_of, taken_by, plainly, is_special, is_program}
-use Rattle.print_spelling.proofs.Claims.{bare, bare_to, ends, ends_stop, open_ends, Claim, off}
+use Rattle.print_spelling.proofs.Claims.{bare, ends, ends_stop, open_ends, Claim, off}
 use Rattle.print_spelling.proofs.Placed.{loose, at}
 
 plain_key : (k : Kind) (texts : List Text) (ts : Terms) → is_among k plain_keys ≡ true → Fit (places k texts) k texts ts → (g : Lead) (rest : Text) → ends rest false ≡ true → Key false (wrapped true (loose 2) (node k texts ts)) (led g (to true (loose 2) (node k texts ts) rest)) rest

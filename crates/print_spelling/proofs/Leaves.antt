@@ -1,19 +1,18 @@
 -- Expressions without parts, and those in parentheses (ECMAScript 13.2).
-use Rattle.std.proofs.Common.{◌≡◌, refl, sym, ap, ◌∙◌, subst, ℕ, suc, zero, List, [], ◌∷◌, ◌++◌, Bool, true, false, not, ◌&&◌, ◌||◌, nat_eq}
+use Rattle.std.proofs.Common.{◌≡◌, refl, sym, subst, ℕ, [], ◌∷◌, ◌++◌, Bool, true, false, not, ◌&&◌, ◌||◌, nat_eq}
 use Rattle.std.specs.Prelude.{codes}
 use Rattle.std.proofs.lemmas.Bool.{and_parts, not-true, ne_eqb, false≢true}
-use Rattle.js_term.specs.Term.{Text, is_text, Term, absent, list, node, Terms, none, more}
+use Rattle.js_term.specs.Term.{Text, is_text, node, none, more}
 use Rattle.js_term.specs.declared.kind.Kind.{Kind}
-use Rattle.js_term.specs.Lexeme.{is_reserved, is_one_of}
+use Rattle.js_term.specs.Lexeme.{is_reserved}
 use Rattle.js_term.specs.Node.{truth, boolean_of}
 use Rattle.js_syntax.specs.Lexical.{is_name, is_regexp_body, are_regexp_flags, in_order}
-use Rattle.js_syntax.specs.Tokens.{Token, Word, regexp, is_regexp}
-use Rattle.js_syntax.specs.Nodes.{regexp_of}
-use Rattle.js_syntax.specs.Spelling.{Stands, identifier, this_expression, null_literal, boolean, numeric, bigint, string_literal, regexp_literal, parenthesized, import_meta, new_target, Pattern, binding}
+use Rattle.js_syntax.specs.Tokens.{Token, regexp, is_regexp}
+use Rattle.js_syntax.specs.Spelling.{identifier, this_expression, null_literal, boolean, numeric, bigint, string_literal, regexp_literal, parenthesized, import_meta, new_target, binding}
 use Rattle.print_layout.specs.Needs.{needs}
 use Rattle.print_spelling.proofs.Openings.{is_opening, name_opening, number_opening, bigint_opening}
-use Rattle.print_spelling.proofs.Tokens.{differ, same_text, or_by, Lead, flush, spaced, led, stops, token_of, opening_gap, stop_part, word_at, name_at, number_at, bigint_at, string_at, sign_at, left_parenthesis, right_parenthesis}
-use Rattle.print_spelling.proofs.Claims.{Expr, ExpressionRule, Rule, ends, ends_stop, open_ends, opens_at, of_stands}
+use Rattle.print_spelling.proofs.Tokens.{differ, same_text, or_by, Lead, flush, led, stops, token_of, opening_gap, stop_part, word_at, name_at, number_at, bigint_at, string_at, sign_at, left_parenthesis, right_parenthesis}
+use Rattle.print_spelling.proofs.Claims.{Expr, ExpressionRule, Rule, ends_stop, open_ends, opens_at, of_stands}
 use Rattle.print_spelling.proofs.Placed.{in_place}
 
 pub identifier_rule : ExpressionRule Kind.Identifier

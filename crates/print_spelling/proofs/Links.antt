@@ -1,30 +1,30 @@
 -- The links of chains, members and calls (ECMAScript 13.3).
-use Rattle.std.proofs.Common.{◌≡◌, refl, sym, ap, ◌∙◌, subst, ℕ, suc, zero, ◌≤◌, List, [], ◌∷◌, ◌++◌, Bool, true, false, not, cond, ◌&&◌, ◌||◌, nat_eq, inl, inr, ◌⊎◌, arith}
+use Rattle.std.proofs.Common.{◌≡◌, refl, sym, ap, ◌∙◌, subst, ℕ, ◌≤◌, List, [], ◌∷◌, ◌++◌, Bool, true, false, not, ◌||◌, nat_eq, inl, inr, arith}
 use Rattle.std.specs.Prelude.{codes, if◌then◌else◌}
 use Rattle.std.proofs.lemmas.Bool.{and_parts, not-true}
 use Rattle.js_term.specs.Term.{Text, is_text, Term, absent, list, node, Terms, none, more, one, two}
 use Rattle.js_term.specs.declared.kind.Kind.{Kind}
 use Rattle.js_term.specs.Lexeme.{is_one_of, is_digit}
 use Rattle.js_term.specs.Node.{name_of}
-use Rattle.js_syntax.specs.Lexical.{is_name, begins, first_passes}
-use Rattle.js_syntax.specs.Tokens.{Sign, opens_with, is_longest}
-use Rattle.js_syntax.specs.Edges.{member_level, has_kind, is_private_member}
+use Rattle.js_syntax.specs.Lexical.{is_name, first_passes}
+use Rattle.js_syntax.specs.Tokens.{Sign}
+use Rattle.js_syntax.specs.Edges.{member_level, is_private_member}
 use Rattle.js_syntax.specs.Parts.{is_set_at}
 use Rattle.js_syntax.specs.Places.{places}
-use Rattle.js_syntax.specs.Nodes.{marked, of_part, super_of, call_link, static_link, computed_link, private_of, private_link}
-use Rattle.js_syntax.specs.Sorts.{Sort, Place, is_expression, takes}
+use Rattle.js_syntax.specs.Nodes.{super_of, call_link, static_link, computed_link, private_of, private_link}
+use Rattle.js_syntax.specs.Sorts.{Sort, Place}
 use Rattle.js_syntax.specs.Printable.{has_shape, has_link}
 use Rattle.js_syntax.specs.Levels.{level, level_first}
-use Rattle.js_syntax.specs.Spelling.{Stands, Arguments, Access, static_access, computed_access, private_access, plain_dot, optional_dot, not_optional, is_optional, Link, access_link, argument_link, Spine, first_link, next_link, member, super_member, call, super_call, chain}
+use Rattle.js_syntax.specs.Spelling.{Stands, Arguments, Access, static_access, computed_access, private_access, plain_dot, optional_dot, not_optional, is_optional, Link, access_link, argument_link, first_link, next_link, member, super_member, call, super_call, chain}
 use Rattle.print_layout.specs.Rows.{comma}
-use Rattle.print_layout.specs.Needs.{is_looser, is_number_kind, is_in, is_held, never}
+use Rattle.print_layout.specs.Needs.{is_number_kind, is_in, is_held, never}
 use Rattle.print_layout.specs.Layout.{put, wrapped, each_wrapped}
-use Rattle.print_spelling.proofs.Openings.{is_point_sign, name_after_point}
-use Rattle.print_spelling.proofs.Tokens.{differ, same_text, or_false, or_by, Lead, flush, led, stops, sign_at, word_at, name_at, private_at, point_at, left_bracket, right_bracket}
+use Rattle.print_spelling.proofs.Openings.{name_after_point}
+use Rattle.print_spelling.proofs.Tokens.{differ, same_text, or_by, flush, led, stops, sign_at, word_at, name_at, private_at, point_at, left_bracket, right_bracket}
 use Rattle.print_spelling.proofs.Spread.{To, to, held_to, each_to, separated_to}
-use Rattle.print_spelling.proofs.Fits.{Fit, taken_by}
+use Rattle.print_spelling.proofs.Fits.{Fit}
 use Rattle.print_spelling.proofs.Shapes.{leaf}
-use Rattle.print_spelling.proofs.Claims.{bare, bare_to, closed, ends, ends_stop, opens_at, Expr, NodeExpr, SpineExpr, NodeSpine, ExpressionRule, of_stands, Claim, Kids, Mode, off, on, tagged, mode_inside, Linked}
+use Rattle.print_spelling.proofs.Claims.{bare, bare_to, closed, ends, ends_stop, opens_at, Expr, NodeExpr, SpineExpr, NodeSpine, of_stands, Claim, Kids, Mode, off, on, tagged, mode_inside, Linked}
 use Rattle.print_spelling.proofs.Placed.{InPlace, in_place, loose_le, le_loose, At, at_by, loose, opens_tight, tight_meets}
 use Rattle.print_spelling.proofs.Calls.{arguments_at, object_is, expression_is, object_need, object_at, point_behind}
 

@@ -1,7 +1,7 @@
 -- Lists with commas between.
-use Rattle.std.proofs.Common.{◌≡◌, refl, sym, ap, ◌∙◌, subst, ℕ, List, [], ◌∷◌, Bool, true, false, not, ◌&&◌, ◌||◌}
+use Rattle.std.proofs.Common.{◌≡◌, refl, sym, subst, ◌∷◌, Bool, true, false, ◌||◌}
 use Rattle.std.specs.Prelude.{codes}
-use Rattle.std.proofs.lemmas.Bool.{and_parts, not-true}
+use Rattle.std.proofs.lemmas.Bool.{and_parts}
 use Rattle.js_term.specs.Term.{Text, Term, absent, list, node, Terms, none, more}
 use Rattle.js_syntax.specs.Sorts as sorts
 use Rattle.js_syntax.specs.Sorts.{Place}
@@ -10,13 +10,13 @@ use Rattle.js_syntax.specs.Parts.{is_present}
 use Rattle.js_syntax.specs.Printable.{has_shape}
 use Rattle.js_syntax.specs.Tokens.{Sign}
 use Rattle.js_syntax.specs.Spelling.{Sort, Item, Listed, last, and, Group, no_items, items, trailing}
-use Rattle.print_layout.specs.Rows.{comma, is_hole, ends_in_hole}
+use Rattle.print_layout.specs.Rows.{comma, ends_in_hole}
 use Rattle.print_layout.specs.Needs.{is_held}
 use Rattle.print_layout.specs.Layout.{put, wrapped, each_wrapped}
-use Rattle.print_spelling.proofs.Tokens.{differ, Lead, flush, spaced, led, stops, comma_at}
-use Rattle.print_spelling.proofs.Spread.{To, to, each_to, separated_to}
+use Rattle.print_spelling.proofs.Tokens.{differ, Lead, flush, spaced, led, comma_at}
+use Rattle.print_spelling.proofs.Spread.{to, each_to, separated_to}
 use Rattle.print_spelling.proofs.Fits.{each_shaped}
-use Rattle.print_spelling.proofs.Claims.{bare, ends, Claim, Each, Mode, off}
+use Rattle.print_spelling.proofs.Claims.{bare, ends, Claim, Each, Mode}
 
 -- A hole leaves the gap before it.
 abbrev pub lead_behind : Lead → Term → Lead

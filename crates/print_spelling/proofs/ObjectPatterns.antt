@@ -1,35 +1,32 @@
 -- Object patterns and objects of targets (ECMAScript 14.3.3, 13.15.5).
-use Rattle.std.proofs.Common.{◌≡◌, refl, sym, ap, ◌∙◌, subst, ℕ, suc, zero, List, [], ◌∷◌, ◌++◌, Bool, true, false, not, cond, ◌&&◌, ◌||◌, inl, inr, ◌⊎◌}
-use Rattle.std.specs.Prelude.{codes, if◌then◌else◌}
+use Rattle.std.proofs.Common.{◌≡◌, refl, sym, subst, ℕ, List, [], ◌∷◌, Bool, true, false, not, ◌&&◌, ◌||◌, inl, inr}
+use Rattle.std.specs.Prelude.{codes}
 use Rattle.std.proofs.lemmas.Bool.{and_parts, not-true}
 use Rattle.js_term.specs.Term.{Text, is_text, Term, absent, list, node, Terms, none, more, one, two, flag}
 use Rattle.js_term.specs.declared.kind.Kind.{Kind}
 use Rattle.js_term.specs.Lexeme.{is_reserved}
-use Rattle.js_term.specs.Node.{binding_of, name_of, identifier_of}
+use Rattle.js_term.specs.Node.{binding_of, name_of}
 use Rattle.js_syntax.specs.Lexical.{is_name}
 use Rattle.js_syntax.specs.Texts as texts
 use Rattle.js_syntax.specs.Texts.{is_free_name}
-use Rattle.js_syntax.specs.Edges as edges
-use Rattle.js_syntax.specs.Parts.{is_set_at, is_node, text_at, text_of, first_is}
-use Rattle.js_syntax.specs.Nodes.{of_part, of_parts, rested, pair_of}
+use Rattle.js_syntax.specs.Parts.{is_set_at, is_node, text_at, first_is}
+use Rattle.js_syntax.specs.Nodes.{pair_of}
 use Rattle.js_syntax.specs.Sorts as sorts
 use Rattle.js_syntax.specs.Sorts.{Place, takes}
 use Rattle.js_syntax.specs.Places.{places, key_place}
 use Rattle.js_syntax.specs.Printable.{has_shape, is_one_name, is_value_of, marks_shorthand}
-use Rattle.js_syntax.specs.Spelling.{Item, no_items, items, Rest, rest_properties, rest_target_properties, Rested, no_rest, rest_alone, Pattern, object_pattern, Target, object_target, a_binding_pair, a_binding_shorthand, a_binding_default, a_target_pair, a_target_shorthand, a_target_default, binding_property, target_property}
-use Rattle.print_layout.specs.Rows.{comma, has_items}
+use Rattle.js_syntax.specs.Spelling.{Item, no_items, items, Rest, rest_properties, no_rest, rest_alone, object_pattern, a_binding_pair, a_binding_shorthand, a_binding_default, binding_property}
 use Rattle.print_layout.specs.Needs.{never}
-use Rattle.print_layout.specs.Layout.{wrapped, each_wrapped}
+use Rattle.print_layout.specs.Layout.{wrapped}
 use Rattle.print_spelling.proofs.Tokens.{differ, same_text, or_by, Lead, flush, spaced, led, stops, sign_at, name_at, left_brace, right_brace, colon_at, dots_at}
-use Rattle.print_spelling.proofs.Spread.{To, to, each_to, separated_to}
-use Rattle.print_spelling.proofs.Fits.{Fit, are_words, are_many, Worded, fit_of, taken_by, plainly, list_shape, each_shaped}
-use Rattle.print_spelling.proofs.Shapes.{kind_is, only, leaf}
-use Rattle.print_spelling.proofs.Claims.{bare, bare_to, ends, ends_stop, through, Claim, Each, Kids, Mode, off, Rule}
-use Rattle.print_spelling.proofs.Placed.{loose, at}
+use Rattle.print_spelling.proofs.Spread.{to}
+use Rattle.print_spelling.proofs.Fits.{Fit, are_words, are_many, Worded, fit_of, taken_by, list_shape}
+use Rattle.print_spelling.proofs.Shapes.{kind_is, leaf}
+use Rattle.print_spelling.proofs.Claims.{bare, bare_to, ends, ends_stop, through, Claim, Kids, off, Rule}
+use Rattle.print_spelling.proofs.Placed.{at}
 use Rattle.print_spelling.proofs.Lists.{ItemAt, one_whole, whole_list, last_present}
 use Rattle.print_spelling.proofs.Keys.{key_at}
-use Rattle.print_spelling.proofs.Assignments.{target_at, simple_is}
-use Rattle.print_spelling.proofs.Patterns.{with_rest, no_comma, pattern_kind, element_kind, target_element_kind, pattern_at, defaulted_at, defaulted_target_at}
+use Rattle.print_spelling.proofs.Patterns.{with_rest, pattern_kind, element_kind, defaulted_at}
 
 -- ---- k: p
 

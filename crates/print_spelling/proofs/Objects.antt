@@ -1,38 +1,35 @@
 -- Arrays, objects and methods (ECMAScript 13.2.4, 13.2.5, 15.4).
-use Rattle.std.proofs.Common.{◌≡◌, refl, sym, ap, ◌∙◌, subst, ℕ, suc, zero, List, [], ◌∷◌, ◌++◌, append_assoc, Bool, true, false, not, cond, ◌&&◌, ◌||◌, inl, inr, ◌⊎◌}
-use Rattle.std.specs.Prelude.{codes, if◌then◌else◌}
+use Rattle.std.proofs.Common.{◌≡◌, refl, sym, subst, List, [], ◌∷◌, ◌++◌, append_assoc, Bool, true, false, not, ◌&&◌, inl, inr, ◌⊎◌}
+use Rattle.std.specs.Prelude.{codes}
 use Rattle.std.proofs.lemmas.Bool.{and_parts, not-true}
 use Rattle.js_term.specs.Term.{Text, is_text, Term, absent, list, node, Terms, none, more, one, two, all, flag}
 use Rattle.js_term.specs.declared.kind.Kind.{Kind}
-use Rattle.js_term.specs.Lexeme.{is_reserved}
-use Rattle.js_term.specs.Kinds.{is_kind}
-use Rattle.js_term.specs.Node.{name_of, identifier_of, array_of, object_of}
-use Rattle.js_syntax.specs.Lexical.{is_name, begins_gap}
+use Rattle.js_term.specs.Node.{name_of}
+use Rattle.js_syntax.specs.Lexical.{begins_gap}
 use Rattle.js_syntax.specs.Texts as texts
-use Rattle.js_syntax.specs.Parts.{is_set, is_set_at, is_node, text_at, text_of, first_is}
+use Rattle.js_syntax.specs.Parts.{is_set, is_set_at, is_node, text_of}
 use Rattle.js_syntax.specs.Edges.{no_private}
-use Rattle.js_syntax.specs.Nodes.{three, property, function_node}
+use Rattle.js_syntax.specs.Nodes.{function_node}
 use Rattle.js_syntax.specs.Sorts as sorts
 use Rattle.js_syntax.specs.Sorts.{Place, takes, suits, is_expression}
 use Rattle.js_syntax.specs.Places.{places, key_place, value_place, function_places}
 use Rattle.js_syntax.specs.Printable.{has_shape, is_property, is_one_name, is_value_of}
-use Rattle.js_syntax.specs.Spelling as spelling
-use Rattle.js_syntax.specs.Spelling.{Stands, array, object, Item, element, property_item, an_element, a_spread_element, an_elision, a_property, a_shorthand, a_method, an_accessor, a_spread_property, Spread, spread, Group, no_items, items, Method, method, Accessor, getter, setter, MethodFunction, method_function, MemberKey, public_key, Async, Star, no_star, with_star}
-use Rattle.print_layout.specs.Rows.{comma, ends_in_hole, braces}
+use Rattle.js_syntax.specs.Spelling.{Stands, array, object, Item, element, property_item, an_element, a_spread_element, an_elision, a_property, a_shorthand, a_method, an_accessor, a_spread_property, spread, no_items, items, Method, method, getter, setter, MethodFunction, method_function, MemberKey, public_key, Star, no_star, with_star}
+use Rattle.print_layout.specs.Rows.{comma, ends_in_hole}
 use Rattle.print_layout.specs.Needs.{never}
 use Rattle.print_layout.specs.Layout.{wrapped, each_wrapped}
-use Rattle.print_spelling.proofs.Openings.{is_opening, is_starred}
+use Rattle.print_spelling.proofs.Openings.{is_starred}
 use Rattle.print_spelling.proofs.Tokens.{differ, same_text, or_by, Lead, flush, spaced, led, sign_at, word_at, name_at, left_bracket, right_bracket, left_brace, right_brace, colon_at, dots_at}
 use Rattle.print_spelling.proofs.Spread.{To, to, each_to, separated_to, method_to}
-use Rattle.print_spelling.proofs.Fits.{Fit, fit_of, taken_by, plainly, list_shape, each_shaped}
+use Rattle.print_spelling.proofs.Fits.{Fit, fit_of, taken_by, list_shape}
 use Rattle.print_spelling.proofs.Shapes.{kind_is}
-use Rattle.print_spelling.proofs.Claims.{bare, bare_to, ends, ends_stop, through, opens_at, Expr, ExpressionRule, of_stands, Claim, Each, Kids, Mode, off, Rule}
+use Rattle.print_spelling.proofs.Claims.{bare, bare_to, ends, ends_stop, through, opens_at, ExpressionRule, of_stands, Claim, Kids, off, Rule}
 use Rattle.print_spelling.proofs.Placed.{loose, at, At}
-use Rattle.print_spelling.proofs.Lists.{ItemAt, one_whole, last_present, whole_list, closing, holed_group}
+use Rattle.print_spelling.proofs.Lists.{ItemAt, one_whole, last_present, whole_list, holed_group}
 use Rattle.print_spelling.proofs.Calls.{argument_is}
 use Rattle.print_spelling.proofs.Keys.{KeyAt, Starred, key_at, key_public, key_starred}
 use Rattle.print_spelling.proofs.Patterns.{closing_flag}
-use Rattle.print_spelling.proofs.ObjectPatterns.{computed_word, shorthand_word, IsBound, free_parts, key_name, no_name}
+use Rattle.print_spelling.proofs.ObjectPatterns.{IsBound, free_parts, key_name, no_name}
 use Rattle.print_spelling.proofs.ObjectTargets.{bound_identifier}
 use Rattle.print_spelling.proofs.Functions.{parameters_at, parameters_end, body_at, past_async, past_star, one_word, by_flag, async_at}
 

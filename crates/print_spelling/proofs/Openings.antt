@@ -1,9 +1,9 @@
 -- What the texts of names and numbers begin with: no gap, no `=` and no sign of a sum; and a point before a name.
-use Rattle.std.proofs.Common.{◌≡◌, refl, ℕ, ◌<◌, ◌≤◌, zero, suc, ◌+◌, ◌*◌, ◌-◌, Bool, true, false, not, ◌&&◌, ◌||◌, cond, inl, inr, ◌⊎◌, List, [], ◌∷◌, ◌++◌, arith, sym, ap, subst, ◌∙◌}
-use Rattle.std.specs.Prelude.{codes, nat_eq, nat_lt, Option, None, Some, option_map}
+use Rattle.std.proofs.Common.{◌≡◌, refl, ℕ, ◌<◌, ◌≤◌, zero, ◌+◌, ◌*◌, ◌-◌, Bool, true, false, not, ◌&&◌, ◌||◌, cond, inl, inr, List, [], ◌∷◌, ◌++◌, arith, sym, ap, subst, ◌∙◌}
+use Rattle.std.specs.Prelude.{codes, nat_eq, Option, None, Some, option_map}
 use Rattle.std.specs.List.{list_all}
 use Rattle.std.specs.Str.{is_utf8, chars, chars_after, continuation_len, lead_bits}
-use Rattle.std.proofs.lemmas.Bool.{and_parts, or_parts, or_cases, not-true, lt-ltb, eqb-true, cases_lt, false≢true, true≢false}
+use Rattle.std.proofs.lemmas.Bool.{and_parts, or_cases, not-true, eqb-true, cases_lt, false≢true, true≢false}
 use Rattle.std.proofs.lemmas.Bool.Decides.{nat_tests}
 use Rattle.unicode_ident.proofs.Computing.{unicode_ident}
 use Rattle.js_chars.specs.Names.{is_identifier_start, is_identifier_name}

@@ -1,31 +1,30 @@
 -- Operators (ECMAScript 13.4 to 13.14, 13.16, 15.5).
-use Rattle.std.proofs.Common.{◌≡◌, refl, sym, ap, ◌∙◌, subst, ℕ, suc, zero, ◌≤◌, List, [], ◌∷◌, ◌++◌, Bool, true, false, not, ◌&&◌, ◌||◌, nat_eq, arith}
-use Rattle.std.specs.Prelude.{Option, None, Some, codes, nat_le, nat_lt, if◌then◌else◌, map}
+use Rattle.std.proofs.Common.{◌≡◌, refl, sym, ap, ◌∙◌, subst, ℕ, suc, ◌≤◌, [], ◌∷◌, ◌++◌, Bool, true, false, not, ◌&&◌, ◌||◌, nat_eq, arith}
+use Rattle.std.specs.Prelude.{Option, None, Some, codes, nat_le, nat_lt, if◌then◌else◌}
 use Rattle.std.proofs.lemmas.Bool.{and_parts, not-true, leb-true}
 use Rattle.std.specs.List.{list_all}
-use Rattle.js_term.specs.Term.{Text, is_text, Term, absent, list, node, Terms, none, more, one, two, flag}
+use Rattle.js_term.specs.Term.{Text, is_text, Term, absent, list, node, none, more, one, two, flag}
 use Rattle.js_term.specs.declared.kind.Kind.{Kind}
 use Rattle.js_term.specs.Lexeme.{is_one_of}
 use Rattle.js_syntax.specs.Lexical.{begins, begins_gap, is_name}
-use Rattle.js_syntax.specs.Tokens.{signs, opens_with, is_longest, Sign, Word}
+use Rattle.js_syntax.specs.Tokens.{signs, opens_with, is_longest}
 use Rattle.js_syntax.specs.Edges.{binary_level, is_coalesce_left, is_word_operator}
 use Rattle.js_syntax.specs.Texts.{binary_operators, unary_operators}
-use Rattle.js_syntax.specs.Nodes.{marked, private_of}
-use Rattle.js_syntax.specs.Sorts as sorts
+use Rattle.js_syntax.specs.Nodes.{marked}
 use Rattle.js_syntax.specs.Sorts.{Sort, Place}
 use Rattle.js_syntax.specs.Printable.{has_shape}
 use Rattle.js_syntax.specs.Levels.{level, level_or}
 use Rattle.js_syntax.specs.Spelling as spelling
 use Rattle.js_syntax.specs.Spelling.{Stands, Expression, sequence, Operator, word_operator, sign_operator, unary, await_expression, binary, exponentiation, private_in, conjunction, disjunction, coalescing, conditional, bare_yield, yielding, delegating, an_expression, is_several}
 use Rattle.print_layout.specs.Rows.{meets, comma}
-use Rattle.print_layout.specs.Needs.{needs, operand_level, is_looser, is_in}
-use Rattle.print_layout.specs.Layout.{wrapped, each_wrapped}
+use Rattle.print_layout.specs.Needs.{operand_level, is_looser}
+use Rattle.print_layout.specs.Layout.{wrapped}
 use Rattle.print_spelling.proofs.Openings.{is_fresh, sum_signs}
-use Rattle.print_spelling.proofs.Tokens.{differ, same_text, or_false, or_by, among, Lead, flush, spaced, led, stops, sign_at, word_at, private_at, opening_gap, same_line, fresh_gap}
-use Rattle.print_spelling.proofs.Spread.{To, to, each_to, behind_to, separated_to}
-use Rattle.print_spelling.proofs.Fits.{Fit, list_shape, each_shaped}
+use Rattle.print_spelling.proofs.Tokens.{differ, same_text, or_false, or_by, among, Lead, flush, spaced, led, sign_at, word_at, private_at, same_line}
+use Rattle.print_spelling.proofs.Spread.{To, to, each_to, behind_to}
+use Rattle.print_spelling.proofs.Fits.{list_shape}
 use Rattle.print_spelling.proofs.Shapes.{leaf}
-use Rattle.print_spelling.proofs.Claims.{bare, bare_to, closed, ends, ends_stop, through, spaced_line, Opens, opens_at, Expr, ExpressionRule, of_stands, Claim, Each, Mode, off}
+use Rattle.print_spelling.proofs.Claims.{bare, bare_to, closed, ends, ends_stop, through, spaced_line, Opens, opens_at, Expr, ExpressionRule, of_stands, Claim, off}
 use Rattle.print_spelling.proofs.Placed.{InPlace, in_place, loose_le, le_loose, At, at, at_by, loose, opens_loose}
 use Rattle.print_spelling.proofs.Lists.{ItemAt, one_whole, whole_list}
 

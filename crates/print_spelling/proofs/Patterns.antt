@@ -1,35 +1,25 @@
 -- Patterns that bind (ECMAScript 14.3.3), patterns of targets (13.15.5), parameters (15.1).
-use Rattle.std.proofs.Common.{◌≡◌, refl, sym, ap, ◌∙◌, subst, ℕ, suc, zero, List, [], ◌∷◌, ◌++◌, Bool, true, false, not, cond, ◌&&◌, ◌||◌, inl, inr, ◌⊎◌}
-use Rattle.std.specs.Prelude.{codes, if◌then◌else◌}
-use Rattle.std.proofs.lemmas.Bool.{and_parts, not-true}
-use Rattle.js_term.specs.Term.{Text, is_text, Term, absent, list, node, Terms, none, more, one, two, all, flag}
+use Rattle.std.proofs.Common.{◌≡◌, refl, sym, subst, List, [], ◌∷◌, ◌++◌, Bool, true, false, inl, inr, ◌⊎◌}
+use Rattle.std.specs.Prelude.{codes}
+use Rattle.js_term.specs.Term.{Text, Term, absent, list, node, Terms, none, more, flag}
 use Rattle.js_term.specs.declared.kind.Kind.{Kind}
-use Rattle.js_term.specs.Lexeme.{is_reserved}
-use Rattle.js_term.specs.Node.{binding_of, name_of, identifier_of}
-use Rattle.js_term.specs.Kinds.{is_among, is_kind}
-use Rattle.js_syntax.specs.Lexical.{is_name}
-use Rattle.js_syntax.specs.Texts.{is_free_name}
-use Rattle.js_syntax.specs.Edges as edges
-use Rattle.js_syntax.specs.Edges.{last_absent}
-use Rattle.js_syntax.specs.Parts.{is_set, text_of}
-use Rattle.js_syntax.specs.Nodes.{of_part, of_parts, rested, pair_of, parameter_of, declarator_of}
+use Rattle.js_term.specs.Kinds.{is_among}
+use Rattle.js_syntax.specs.Nodes.{of_part, rested, declarator_of}
 use Rattle.js_syntax.specs.Sorts as sorts
 use Rattle.js_syntax.specs.Sorts.{Place, takes, patterns}
-use Rattle.js_syntax.specs.Places.{places, places_at}
 use Rattle.js_syntax.specs.Printable.{has_shape}
-use Rattle.js_syntax.specs.Spelling.{Sort, Item, Listed, Group, Rested, no_rest, no_rest_closed, nothing, rest_alone, and_rest, Rest, rest_parameter, rest_binding, rest_properties, rest_target, rest_target_properties, Pattern, binding, object_pattern, array_pattern, Defaulted, not_defaulted, defaulted, Target, object_target, array_target, DefaultedTarget, target_alone, target_default, Parameters, parameters, a_parameter, an_optional_parameter, a_binding, a_hole, a_binding_pair, a_binding_shorthand, a_binding_default, a_target, a_target_hole, a_target_pair, a_target_shorthand, a_target_default, parameter, binding_element, binding_property, target_element, target_property, declarator, a_declarator, an_initialized}
+use Rattle.js_syntax.specs.Spelling.{Sort, Item, Rested, no_rest, no_rest_closed, nothing, rest_alone, and_rest, Rest, rest_parameter, rest_binding, rest_target, Pattern, array_pattern, Defaulted, not_defaulted, defaulted, Target, array_target, DefaultedTarget, target_alone, target_default, Parameters, parameters, a_parameter, an_optional_parameter, a_binding, a_hole, a_target, a_target_hole, parameter, binding_element, target_element, declarator, a_declarator, an_initialized}
 use Rattle.print_layout.specs.Rows.{comma, has_items, ends_in_hole}
 use Rattle.print_layout.specs.Needs.{never}
 use Rattle.print_layout.specs.Layout.{wrapped, each_wrapped}
-use Rattle.print_spelling.proofs.Tokens.{differ, same_text, or_by, Lead, flush, spaced, led, stops, sign_at, name_at, left_parenthesis, right_parenthesis, left_bracket, right_bracket, left_brace, right_brace, comma_at, colon_at, dots_at}
+use Rattle.print_spelling.proofs.Tokens.{differ, Lead, flush, spaced, led, stops, sign_at, left_parenthesis, right_parenthesis, left_bracket, right_bracket, comma_at, dots_at}
 use Rattle.print_spelling.proofs.Spread.{To, to, each_to, separated_to}
-use Rattle.print_spelling.proofs.Fits.{Fit, fit_of, taken_by, plainly, list_shape, each_shaped}
-use Rattle.print_spelling.proofs.Shapes.{kind_is, only, leaf}
-use Rattle.print_spelling.proofs.Claims.{bare, bare_to, ends, ends_stop, through, Claim, Each, Kids, Mode, off, Rule, Meaning}
-use Rattle.print_spelling.proofs.Placed.{loose, at}
+use Rattle.print_spelling.proofs.Fits.{Fit, fit_of, taken_by, list_shape, each_shaped}
+use Rattle.print_spelling.proofs.Shapes.{kind_is, only}
+use Rattle.print_spelling.proofs.Claims.{bare, bare_to, ends, ends_stop, through, Claim, Each, Kids, off, Rule}
+use Rattle.print_spelling.proofs.Placed.{at}
 use Rattle.print_spelling.proofs.Lists.{ItemAt, lead_last, listed, each_item, one_whole, whole_group, whole_list, last_present, closing, holed_group}
-use Rattle.print_spelling.proofs.Keys.{key_at}
-use Rattle.print_spelling.proofs.Assignments.{TargetAt, target_by, target_at, simple_is}
+use Rattle.print_spelling.proofs.Assignments.{target_by, target_at}
 
 -- ---- items and a rest
 

@@ -1,24 +1,24 @@
 -- Expressions in their places: their levels, their fronts, and how they end.
-use Rattle.std.proofs.Common.{◌≡◌, refl, sym, ap, ◌∙◌, subst, ℕ, suc, zero, ◌+◌, ◌≤◌, List, [], ◌∷◌, Bool, true, false, cond, not, ◌&&◌, ◌||◌, nat_eq, nat_lt, arith}
-use Rattle.std.specs.Prelude.{codes, nat_le, Option, None, Some, if◌then◌else◌}
-use Rattle.std.proofs.lemmas.Bool.{and_parts, not-true, ltb-true, ltb-false, le-ltb, leb-true, ne_eqb}
+use Rattle.std.proofs.Common.{◌≡◌, refl, sym, ap, ◌∙◌, subst, ℕ, suc, zero, ◌≤◌, List, [], ◌∷◌, Bool, true, false, not, ◌&&◌, ◌||◌, nat_eq, arith}
+use Rattle.std.specs.Prelude.{codes, nat_le, Some, if◌then◌else◌}
+use Rattle.std.proofs.lemmas.Bool.{and_parts, ltb-true, ltb-false, le-ltb, leb-true, ne_eqb}
 use Rattle.std.specs.List.{list_all}
 use Rattle.js_term.specs.Term.{Text, is_text, Term, absent, list, node, Terms, none, more, first}
 use Rattle.js_term.specs.declared.kind.Kind.{Kind}
 use Rattle.js_term.specs.Lexeme.{is_one_of}
 use Rattle.js_term.specs.Kinds.{is_among}
-use Rattle.js_syntax.specs.Edges.{member_level, binary_level, level_among, operator_levels, has_kind}
+use Rattle.js_syntax.specs.Edges.{member_level, level_among, operator_levels, has_kind}
 use Rattle.js_syntax.specs.Sorts.{Sort, Place, is_expression, plain_statements, takes}
 use Rattle.js_syntax.specs.Printable.{has_shape}
-use Rattle.js_syntax.specs.Levels.{level, level_by, level_first, level_or, logical_level}
-use Rattle.js_syntax.specs.Spelling.{Stands, Expression}
+use Rattle.js_syntax.specs.Levels.{level, level_or, logical_level}
+use Rattle.js_syntax.specs.Spelling.{Stands}
 use Rattle.print_layout.specs.Rows.{meets, is_sign_of}
-use Rattle.print_layout.specs.Needs.{is_looser, is_number_kind, is_misread, is_in, is_held, needs, inside}
+use Rattle.print_layout.specs.Needs.{is_looser, is_number_kind, is_in, is_held}
 use Rattle.print_layout.specs.Layout.{put, wrapped}
 use Rattle.print_spelling.proofs.Tokens.{differ, same_text, or_false, or_by, Lead, led}
 use Rattle.print_spelling.proofs.Spread.{To, to}
 use Rattle.print_spelling.proofs.Fits.{taken_by}
-use Rattle.print_spelling.proofs.Claims.{bare, bare_to, is_closed, closed, ends, Opens, Expr, NodeExpr, Meaning, Category, an_expression, a_statement, other_category, Claim, held, Mode, off}
+use Rattle.print_spelling.proofs.Claims.{bare, is_closed, closed, ends, Opens, Expr, NodeExpr, Meaning, an_expression, a_statement, other_category, Claim, held, Mode, off}
 
 pub loose_le : (n : ℕ) (t : Term) → is_looser n t ≡ false → n ≤ level t
 loose_le zero t h = omega arith

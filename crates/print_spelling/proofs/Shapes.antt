@@ -1,8 +1,7 @@
 -- Parts of one kind, and parts without parts of their own.
 use denote.Enum.Bare.{same_true}
-use Rattle.std.proofs.Common.{rules, ◌≡◌, refl, sym, ap, ◌∙◌, subst, ℕ, List, [], ◌∷◌, Bool, true, false, ◌&&◌}
-use Rattle.std.proofs.lemmas.Bool.{and_parts}
-use Rattle.js_term.specs.Term.{Text, Term, absent, list, node, Terms, none, more}
+use Rattle.std.proofs.Common.{rules, ◌≡◌, sym, subst, List, [], ◌∷◌, Bool, true, false, ◌&&◌}
+use Rattle.js_term.specs.Term.{Text, Term, absent, list, node, Terms, none}
 use Rattle.js_term.specs.declared.kind.Kind.{Kind}
 use Rattle.js_term.specs.contracts.kind.Kind.{the_type}
 use Rattle.js_term.specs.Kinds.{is_kind}
@@ -11,7 +10,7 @@ use Rattle.js_syntax.specs.Places.{places_at}
 use Rattle.js_syntax.specs.Texts.{tests}
 use Rattle.js_syntax.specs.Printable.{has_shape}
 use Rattle.print_spelling.proofs.Tokens.{differ}
-use Rattle.print_spelling.proofs.Fits.{Fit, fit_of, taken_by, is_program, are_words, are_many, Worded}
+use Rattle.print_spelling.proofs.Fits.{fit_of, taken_by, is_program, are_words, are_many, Worded}
 
 pub kind_is : (k j : Kind) → is_kind k j ≡ true → k ≡ j
 kind_is k j e = same_true the_type (search rules) k j e

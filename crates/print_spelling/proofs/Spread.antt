@@ -1,11 +1,10 @@
 -- The layout before a rest: the same text as a function of what stands behind it, so that no text is put together twice.
-use Rattle.std.proofs.Common.{◌≡◌, refl, sym, ap, ◌∙◌, ℕ, suc, zero, List, [], ◌∷◌, ◌++◌, append_assoc, Bool, true, false, ◌||◌, if◌then◌else◌, take, drop}
-use Rattle.std.specs.Prelude.{codes}
+use Rattle.std.proofs.Common.{◌≡◌, refl, ap, ◌∙◌, ℕ, suc, zero, List, [], ◌∷◌, ◌++◌, append_assoc, Bool, true, false, ◌||◌, if◌then◌else◌, take, drop}
 use Rattle.js_term.specs.Term.{Text, Term, absent, list, node, Terms, none, more}
 use Rattle.js_term.specs.declared.kind.Kind.{Kind}
 use Rattle.print_layout.specs.Rows.{Piece, say, part, each, heads, past, woven, row, method_row}
 use Rattle.print_layout.specs.Needs.{needs, inside, is_held}
-use Rattle.print_layout.specs.Layout.{Printed, nothing, part_at, separated, behind, template, spread, in_parentheses, is_method_part, text, rows, method_text, items_text, each_text}
+use Rattle.print_layout.specs.Layout.{Printed, part_at, separated, behind, template, spread, in_parentheses, is_method_part, text, rows, method_text, items_text, each_text}
 
 abbrev pub To : Type 0
 To = Text → Text

@@ -1,29 +1,25 @@
 -- Statements (ECMAScript 14).
-use Rattle.std.proofs.Common.{◌≡◌, refl, sym, ap, ◌∙◌, subst, ℕ, suc, zero, List, [], ◌∷◌, ◌++◌, Bool, true, false, not, cond, ◌&&◌, ◌||◌, inl, inr, ◌⊎◌}
-use Rattle.std.specs.Prelude.{codes, if◌then◌else◌}
+use Rattle.std.proofs.Common.{◌≡◌, refl, sym, ◌∙◌, subst, List, [], ◌∷◌, ◌++◌, Bool, true, false, not, ◌&&◌, ◌||◌}
+use Rattle.std.specs.Prelude.{codes}
 use Rattle.std.proofs.lemmas.Bool.{and_parts, not-true}
-use Rattle.std.specs.List.{list_all}
-use Rattle.js_term.specs.Term.{Text, is_text, Term, absent, list, node, Terms, none, more, one, two, all, flag}
+use Rattle.js_term.specs.Term.{Text, Term, absent, list, node, Terms, none, more}
 use Rattle.js_term.specs.declared.kind.Kind.{Kind}
 use Rattle.js_term.specs.Lexeme.{is_one_of, is_reserved}
 use Rattle.js_syntax.specs.Lexical.{begins_gap, is_name}
 use Rattle.js_syntax.specs.Tokens.{Word}
-use Rattle.js_syntax.specs.Texts as texts
 use Rattle.js_syntax.specs.Texts.{is_free_name}
-use Rattle.js_syntax.specs.Parts.{is_present}
-use Rattle.js_syntax.specs.Nodes.{three, marked, label_of, of_part, of_parts, variables_of, declarator_of}
+use Rattle.js_syntax.specs.Nodes.{label_of, of_part, of_parts}
 use Rattle.js_syntax.specs.Sorts as sorts
 use Rattle.js_syntax.specs.Sorts.{Place}
-use Rattle.js_syntax.specs.Places.{places}
-use Rattle.js_syntax.specs.Printable.{has_shape, ends_open, kid_ends_open, leaves_else}
-use Rattle.js_syntax.specs.Spelling.{Statement, empty_statement, expression_statement, if_statement, if_else, do_while, do_written, while_statement, continue_statement, break_statement, bare_return, return_statement, labeled, throw_statement, try_statement, debugger, declaration, variables, declarators, Variables, Label, no_label, a_label, Handler, no_handler, bare_handler, handler, Finalizer, no_finalizer, finalizer, written, Item, declarator, a_declarator, Listed}
+use Rattle.js_syntax.specs.Printable.{has_shape, ends_open}
+use Rattle.js_syntax.specs.Spelling.{Statement, empty_statement, expression_statement, if_statement, if_else, do_while, do_written, while_statement, continue_statement, break_statement, bare_return, return_statement, labeled, throw_statement, try_statement, debugger, declaration, variables, declarators, Variables, Label, no_label, a_label, Handler, no_handler, bare_handler, handler, no_finalizer, finalizer, written, Item, declarator, a_declarator}
 use Rattle.print_layout.specs.Rows.{comma}
 use Rattle.print_layout.specs.Needs.{never, needs, leads, is_opener}
 use Rattle.print_layout.specs.Layout.{wrapped, wrapped_kids, each_wrapped}
 use Rattle.js_syntax.specs.Edges.{has_kind, is_string_kind}
-use Rattle.print_spelling.proofs.Tokens.{differ, or_false, among, Lead, flush, spaced, led, stops, word_at, name_at, left_parenthesis, right_parenthesis, semicolon_at, colon_at, same_line, opening_gap}
+use Rattle.print_spelling.proofs.Tokens.{differ, or_false, among, Lead, flush, spaced, led, word_at, name_at, left_parenthesis, right_parenthesis, semicolon_at, colon_at, same_line, opening_gap}
 use Rattle.print_spelling.proofs.Openings.{name_opening}
-use Rattle.print_spelling.proofs.Spread.{To, to, each_to, separated_to}
+use Rattle.print_spelling.proofs.Spread.{to, each_to, separated_to}
 use Rattle.print_spelling.proofs.Fits.{Fit, fit_of, taken_by, list_shape, each_shaped}
 use Rattle.print_spelling.proofs.Shapes.{kind_is, only, leaf}
 use Rattle.print_spelling.proofs.Claims.{bare, bare_to, ends, spaced_line, Claim, Each, Kids, Mode, off, Rule, Meaning, a_declarator}

@@ -1,31 +1,29 @@
 -- Templates, `new` and `import()` (ECMAScript 13.2.8, 13.3.5, 13.3.10, 13.3.11).
-use Rattle.std.proofs.Common.{◌≡◌, refl, sym, ap, ◌∙◌, subst, ℕ, suc, zero, ◌≤◌, List, [], ◌∷◌, ◌++◌, Bool, true, false, not, ◌&&◌, ◌||◌, nat_eq, arith}
+use Rattle.std.proofs.Common.{◌≡◌, refl, sym, subst, ℕ, suc, ◌≤◌, List, [], ◌∷◌, ◌++◌, Bool, true, false, not, ◌||◌, nat_eq, arith}
 use Rattle.std.specs.Prelude.{codes}
 use Rattle.std.proofs.lemmas.Bool.{and_parts, not-true, eqb-true}
 use Rattle.std.specs.List.{list_all}
-use Rattle.js_term.specs.Term.{Text, Term, absent, list, node, Terms, none, more, one, two}
+use Rattle.js_term.specs.Term.{Text, Term, absent, list, node, Terms, none, more, two}
 use Rattle.js_term.specs.declared.kind.Kind.{Kind}
 use Rattle.js_term.specs.Kinds.{is_kind}
 use Rattle.js_syntax.specs.Lexical.{is_no_return, are_template_characters, is_template_text, normal_lines, has_sound_escapes}
 use Rattle.js_syntax.specs.Tokens.{Token, no_substitution, template_head, template_middle, template_tail, is_no_substitution, is_head, is_middle, is_tail}
-use Rattle.js_syntax.specs.Edges.{member_level}
 use Rattle.js_syntax.specs.Parts.{count}
-use Rattle.js_syntax.specs.Nodes.{of_text, of_parts, template_of, new_of}
+use Rattle.js_syntax.specs.Nodes.{of_text, of_parts}
 use Rattle.js_syntax.specs.Sorts.{Sort, Place, suits}
-use Rattle.js_syntax.specs.Printable.{has_shape, is_template}
+use Rattle.js_syntax.specs.Printable.{has_shape}
 use Rattle.js_syntax.specs.Levels.{level}
 use Rattle.js_syntax.specs.Spelling as spelling
 use Rattle.js_syntax.specs.Spelling.{Stands, Template, whole_template, template_parts, TemplateRest, template_end, template_more, template, construction, import_call, ImportOptions, no_options, options}
-use Rattle.print_layout.specs.Rows.{comma}
-use Rattle.print_layout.specs.Needs.{never, is_looser}
+use Rattle.print_layout.specs.Needs.{never}
 use Rattle.print_layout.specs.Layout.{wrapped, each_wrapped}
 use Rattle.print_spelling.proofs.Tokens.{differ, Lead, flush, spaced, led, token_of, word_at, left_parenthesis, right_parenthesis, comma_at}
-use Rattle.print_spelling.proofs.Spread.{To, to, each_to, template_to, separated_to}
-use Rattle.print_spelling.proofs.Fits.{Fit, fit_of, taken_by, list_shape, each_shaped, are_words, are_many}
+use Rattle.print_spelling.proofs.Spread.{each_to, template_to}
+use Rattle.print_spelling.proofs.Fits.{Fit, fit_of, taken_by, list_shape, each_shaped}
 use Rattle.print_spelling.proofs.Shapes.{kind_is, leaf}
 use Rattle.print_spelling.proofs.Claims.{bare, bare_to, closed, opens_at, Expr, NodeExpr, ExpressionRule, of_stands, Claim, Each, Kids, Mode, off}
 use Rattle.print_spelling.proofs.Claims as claims
-use Rattle.print_spelling.proofs.Placed.{InPlace, in_place, loose, At, at, loose_le, opens_tight}
+use Rattle.print_spelling.proofs.Placed.{in_place, loose, At, at, opens_tight}
 use Rattle.print_spelling.proofs.Calls.{arguments_at}
 
 -- ---- the texts of a template

@@ -1,16 +1,16 @@
 -- Tokens as they are printed: at the front, behind a blank, or behind a line feed.
-use Rattle.std.proofs.Common.{◌≡◌, refl, sym, ap, ◌∙◌, subst, ℕ, List, [], ◌∷◌, ◌++◌, append_assoc, codes, Bool, true, false, not, ◌&&◌, ◌||◌, nat_eq, Some}
-use Rattle.std.proofs.lemmas.Bool.{and_parts, not-true, eqb-true, false≢true, true≢false}
+use Rattle.std.proofs.Common.{◌≡◌, refl, sym, subst, ℕ, List, [], ◌∷◌, ◌++◌, append_assoc, codes, Bool, true, false, not, ◌&&◌, ◌||◌, nat_eq, Some}
+use Rattle.std.proofs.lemmas.Bool.{and_parts, not-true, eqb-true, true≢false}
 use Rattle.std.specs.List.{list_all}
 use Rattle.std.specs.Cmp.Lexicographic.{bytes_decides}
 use Rattle.js_term.specs.Term.{Text, is_text}
 use Rattle.js_term.specs.Lexeme.{is_part, is_one_of}
-use Rattle.js_syntax.specs.Lexical.{begins, begins_any, begins_gap, is_ascii, is_name, begins_part, begins_start_or_digit, first_passes, is_integer, is_point, is_numeral, is_big_integer, decoded}
-use Rattle.js_syntax.specs.Tokens.{Gap, no_gap, blank, line_end, Front, SameLine, Lexeme, word, private_name, number, big_integer, string, sign, signs, opens_with, is_longest, Lexed, is_word, is_private_name, is_number, is_bigint, is_string, is_punctuator, Token, Word, Sign}
+use Rattle.js_syntax.specs.Lexical.{begins, begins_gap, is_ascii, is_name, begins_part, begins_start_or_digit, first_passes, is_integer, is_point, is_numeral, is_big_integer, decoded}
+use Rattle.js_syntax.specs.Tokens.{no_gap, blank, line_end, Front, SameLine, Lexeme, private_name, number, big_integer, string, signs, opens_with, is_longest, Lexed, is_word, is_private_name, is_number, is_bigint, is_string, is_punctuator, Token, Word, Sign}
 use Rattle.print_spelling.specs.Laws.{Strings}
 use Rattle.print_layout.specs.Rows as rows
 use Rattle.print_layout.specs.Rows.{all_escaped, quoted}
-use Rattle.print_spelling.proofs.Openings.{is_fresh, sum_signs, is_opening, is_point_sign, name_opening, number_opening, bigint_opening, name_after_point}
+use Rattle.print_spelling.proofs.Openings.{is_fresh, is_opening, name_opening, number_opening, bigint_opening, name_after_point}
 
 pub differ : {A : Type 0} → true ≡ false → A
 differ e = absurd (true≢false e)
