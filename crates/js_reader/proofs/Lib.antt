@@ -1,1 +1,2 @@
 pub mod Punctuators
+pub mod Summing

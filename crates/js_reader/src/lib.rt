@@ -8,5 +8,5 @@ mod tokens;
 
 pub use edge::Edge;
 pub use fault::Halt;
-pub use found::Found;
+pub use found::{Found, Listed, Listing};
 pub use tokens::{binding, expect, expect_word, name, sees, sees_word};
