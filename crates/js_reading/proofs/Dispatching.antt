@@ -11,11 +11,11 @@ use Rattle.js_syntax.specs.Texts.{assignment_operators}
 use Rattle.js_syntax.specs.Tokens.{Lexeme, word, private_name, sign, Word, Sign, SameLine}
 use Rattle.js_syntax.specs.Edges.{Edge, full, edge, is_unary, is_update, is_simple_target, is_private_member, is_coalesce_left, member_level, binary_level}
 use Rattle.js_syntax.specs.Spelling as spell
-use Rattle.js_syntax.specs.Spelling.{Stands, FunctionText, ClassText, is_several}
+use Rattle.js_syntax.specs.Spelling.{Stands, BareNew}
 use Rattle.js_tokens.specs.Next.{lexeme, after}
 use Rattle.js_reading.specs.Reading.{Found, same_line, sees, joined}
 use Rattle.js_reading.proofs.TokensThere.{Seen, see_sign, see_word, on_line}
-use Rattle.js_reading.proofs.Opens.{begins, Opens, stands_opens}
+use Rattle.js_reading.proofs.Opens.{begins, Opens, stands_opens, bare_new_opens}
 use Rattle.js_reading.proofs.Climbs.{whole, IsRead}
 use Rattle.js_reading.proofs.Operations.{SeenOperator, see_operator, operator_utf8, exponentiation_read, conjunction_read, disjunction_read, coalescing_read, binary_read, conditional_read}
 use Rattle.js_reading.proofs.Prefixes.{unary_read, await_read, update_before_read, update_behind_read, private_in_read, bare_yield_read, yielding_read, delegating_read}
@@ -152,3 +152,6 @@ stands_starts s u = let x = stands_opens s u in x.starts
 
 pub no_spread : {i : Bool} {n : ℕ} {e : Term} {a b : Text} → Stands i n e a b → is_node Kind.SpreadElement e ≡ false
 no_spread s = let x = stands_shape s in x.no_spread
+
+pub bare_starts : {i : Bool} {e : Term} {a b : Text} → BareNew i e a b → IsUtf8 a → begins (lexeme a) ≡ true
+bare_starts s u = let x = bare_new_opens s u in x.starts

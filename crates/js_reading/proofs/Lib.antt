@@ -32,3 +32,4 @@ pub mod Grouped
 pub mod Arrows
 pub mod Shapes
 pub mod Dispatching
+pub mod Completing
