@@ -33,3 +33,4 @@ pub mod Arrows
 pub mod Shapes
 pub mod Dispatching
 pub mod Completing
+pub mod Templating
