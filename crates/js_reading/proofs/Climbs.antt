@@ -49,7 +49,7 @@ pub record IsRead (i : Bool) (d : ℕ) (f : Found) (a b : Text) : Type 0 where
   pub calls : 19 ≤ f.level → 19 ≤ keeps
   pub reach : (limit least : ℕ) → least ≤ f.level → d ≤ suc limit → holds i (edge f.tree) keeps b ≡ true → (least ≤ 2 → quiet f.tree b ≡ true) → Reach i limit least f a b
 
-climb_stops : (i : Bool) (limit n least : ℕ) (f : Found) (b : Text) → goes_on i least f b ≡ false → climb (read limit) i least n f b ≡ Some (f, b)
+pub climb_stops : (i : Bool) (limit n least : ℕ) (f : Found) (b : Text) → goes_on i least f b ≡ false → climb (read limit) i least n f b ≡ Some (f, b)
 unfolding climb
 climb_stops i limit zero least f b h = refl
 climb_stops i limit (suc n) least f b h = rw h
@@ -64,11 +64,11 @@ async_full : (t : Term) → is_async t ≡ true → edge t ≡ full
 async_full (node Kind.Identifier (x ∷ []) none) h = refl
 async_full t h = absurd (false≢true h)
 
-paren_tight : (i : Bool) (b : Text) → sees (codes "(") b ≡ true → tightness i b ≡ 19
+pub paren_tight : (i : Bool) (b : Text) → sees (codes "(") b ≡ true → tightness i b ≡ 19
 unfolding tightness
 paren_tight i b h = let is = sees_sign (codes "(") b h in rw (sign_takes (codes "(") b is refl, is) refl
 
-full_low : (i : Bool) (k : ℕ) (b : Text) → holds i full k b ≡ true → tightness i b ≤ k
+pub full_low : (i : Bool) (k : ℕ) (b : Text) → holds i full k b ≡ true → tightness i b ≤ k
 unfolding holds
 full_low i k b h = leb-true (tightness i b) k h
 
@@ -87,6 +87,15 @@ quiet_holds i t k b h low = quiet_cases (is_async t) (same_line b) (sees (codes 
 pub quiet_other : (t : Term) (b : Text) → sees (codes "(") b ≡ false → quiet t b ≡ true
 unfolding quiet
 quiet_other t b h = quiet_cases (is_async t) (same_line b) (sees (codes "(") b) (λ e s. false≢true (sym h ∙ s))
+
+pub quiet_broken : (t : Term) (b : Text) → same_line b ≡ false → quiet t b ≡ true
+unfolding quiet
+quiet_broken t b h = quiet_line (is_async t) (same_line b) (sees (codes "(") b) h
+  where
+    quiet_line : (p q r : Bool) → q ≡ false → not (p && (q && r)) ≡ true
+    quiet_line true true r h = absurd (false≢true (sym h))
+    quiet_line true false r h = refl
+    quiet_line false q r h = refl
 
 pub quiet_not_async : (t : Term) (b : Text) → is_async t ≡ false → quiet t b ≡ true
 unfolding quiet
@@ -126,11 +135,9 @@ going : (i : Bool) (least : ℕ) (f : Found) (b : Text) → goes_on_by i least f
 unfolding goes_on
 going i least f b h = h
 
--- What was found goes on to something larger.
-pub grown : {i : Bool} {d : ℕ} {f f' : Found} {a b b' : Text} (limit least : ℕ) (r : IsRead i d f a b) → d ≤ suc limit → length b' < length b → 1 < binds i (lexeme b) → least ≤ gives i f.level (lexeme b) → least ≤ f.level → needs i (lexeme b) ≤ f.level → suits f.level (lexeme b) (same_line b) ≡ true → holds i (edge f.tree) r.keeps b ≡ true → (least ≤ 2 → quiet f.tree b ≡ true) → extended (read limit) i f b ≡ Some (f', b') → Reach i limit least f' a b'
-grown {i} {d} {f} {f'} {a} {b} {b'} limit least r fits shorter some low low' high suit k q x =
-    let from = r.reach limit least low' fits k q in
-    go from.turns from.enough from.same
+-- Where reading comes to something, it comes to something larger.
+pub grow : {i : Bool} {f f' : Found} {a b b' : Text} (limit least : ℕ) → Reach i limit least f a b → length b' < length b → 1 < binds i (lexeme b) → least ≤ gives i f.level (lexeme b) → needs i (lexeme b) ≤ f.level → suits f.level (lexeme b) (same_line b) ≡ true → extended (read limit) i f b ≡ Some (f', b') → Reach i limit least f' a b'
+grow {i} {f} {f'} {a} {b} {b'} limit least from shorter some low high suit x = go from.turns from.enough from.same
   where
     go : (n : ℕ) → length b ≤ n → at_level (read limit) i least a ≡ climb (read limit) i least n f b → Reach i limit least f' a b'
     go zero enough same = absurd (omega arith)
@@ -205,7 +212,7 @@ joined_read {i} {d} {d'} {k} {t} {f} {e} {a} {b} {c} keeps left j q deep high lo
   tight = λ n h h' h''. reaches n h h' h'' (cases_le k 14);
   calls = calls;
   reach = λ limit least below fits holding qt.
-      grown limit least left (omega arith) shorter j.some (let g = j.gives_is in rw g below) (omega arith) j.needs_low j.suit (tight_holds i (edge f.tree) f.level left.keeps b left.ends high (let jt = j.tight in omega arith)) (λ _. q) (extends limit fits holding);
+      grow limit least (left.reach limit least (omega arith) (omega arith) (tight_holds i (edge f.tree) f.level left.keeps b left.ends high (let jt = j.tight in omega arith)) (λ _. q)) shorter j.some (let g = j.gives_is in rw g below) j.needs_low j.suit (extends limit fits holding);
 }
   where
     reaches : (n : ℕ) → n ≤ 14 → 3 < k → n ≤ k → k ≤ 14 ⊎ 14 < k → n ≤ keeps

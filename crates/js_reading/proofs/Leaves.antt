@@ -63,7 +63,7 @@ async_there sub i least b h calm = go (same_line b) refl
     go false line = named_there sub i (codes "async") b h
 
 -- a name that is not `async`
-plain_there : (sub : Goal → Text → Reading Found) (i : Bool) (least : ℕ) (x b : Text) → is_reserved x ≡ false → is_text x (codes "async") ≡ false → word_prefix sub i least x b ≡ named sub i x b
+pub plain_there : (sub : Goal → Text → Reading Found) (i : Bool) (least : ℕ) (x b : Text) → is_reserved x ≡ false → is_text x (codes "async") ≡ false → word_prefix sub i least x b ≡ named sub i x b
 plain_there sub i least x b free other = rw (
     not_text x (codes "function") free refl, not_text x (codes "class") free refl, other, not_text x (codes "new") free refl, not_text x (codes "import") free refl,
     not_text x (codes "super") free refl, not_text x (codes "await") free refl, not_text x (codes "yield") free refl, not_text x (codes "delete") free refl,

@@ -25,5 +25,13 @@ pub mod Leaves
 pub mod Operations
 pub mod Prefixes
 pub mod Listings
+pub mod Links
 pub mod Claims
 pub mod Derived
+pub mod Calls
+pub mod Grouped
+pub mod Arrows
+pub mod Shapes
+pub mod Dispatching
+pub mod Completing
+pub mod Templating

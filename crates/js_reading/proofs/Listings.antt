@@ -7,7 +7,7 @@ use Rattle.js_term.specs.declared.kind.Kind.{Kind}
 use Rattle.js_term.specs.Node.{sequence_of}
 use Rattle.js_syntax.specs.Nodes.{of_part}
 use Rattle.js_syntax.specs.Tokens.{Lexeme, sign}
-use Rattle.js_syntax.specs.Edges.{Edge, edge, edge_last}
+use Rattle.js_syntax.specs.Edges.{Edge, edge, edge_last, is_simple_target, last_absent}
 use Rattle.js_syntax.specs.Spelling.{is_several}
 use Rattle.js_tokens.specs.Next.{lexeme, after}
 use Rattle.js_reading.specs.declared.goal.Goal.{Goal}
@@ -26,9 +26,11 @@ pub record StandsRead (i : Bool) (n : ℕ) (e : Term) (a b : Text) : Type 0 wher
   pub barred : Bool
   pub read : IsRead i (depth e) (whole e n barred) a b
   pub utf8 : IsUtf8 b
+  -- a target that is no pattern
+  pub simple : is_simple_target e ≡ true → barred ≡ false
 
-pub stands : {i p : Bool} {n : ℕ} {e : Term} {a b : Text} → IsRead i (depth e) (whole e n p) a b → IsUtf8 b → StandsRead i n e a b
-stands {p = p} r u = record { barred = p; read = r; utf8 = u }
+pub stands : {i : Bool} {n : ℕ} {e : Term} {a b : Text} → IsRead i (depth e) (closed e n) a b → IsUtf8 b → StandsRead i n e a b
+stands r u = record { barred = false; read = r; utf8 = u; simple = λ h. refl }
 
 -- ---- expressions with commas between
 
@@ -109,7 +111,7 @@ pub record FoundList (at : ℕ → Text → Reading Found) (hole : Bool) (es : L
   pub utf8 : IsUtf8 b
   pub reads : (limit : ℕ) → depths (all es) ≤ limit → ReadsAll hole false (at limit) found a b
 
-pub last_found : {at : ℕ → Text → Reading Found} {hole : Bool} {e : Term} {a b : Text} → FoundItem at hole e a b → FoundList at hole (e ∷ []) a b
+unfoldable pub last_found : {at : ℕ → Text → Reading Found} {hole : Bool} {e : Term} {a b : Text} → FoundItem at hole e a b → FoundList at hole (e ∷ []) a b
 last_found x = record {
   found = x.found ∷ [];
   trees_are = let t = x.tree_is in rw t;
@@ -118,7 +120,7 @@ last_found x = record {
   reads = λ limit fits. last_all (x.reads limit (omega arith));
 }
 
-pub and_found : {at : ℕ → Text → Reading Found} {hole' hole : Bool} {e : Term} {es : List Term} {a b c d : Text} → FoundItem at hole' e a b → Seen (sign (codes ",")) b c → FoundList at hole es c d → FoundList at hole (e ∷ es) a d
+unfoldable pub and_found : {at : ℕ → Text → Reading Found} {hole' hole : Bool} {e : Term} {es : List Term} {a b c d : Text} → FoundItem at hole' e a b → Seen (sign (codes ",")) b c → FoundList at hole es c d → FoundList at hole (e ∷ es) a d
 and_found x tok rest = record {
   found = x.found ∷ rest.found;
   trees_are = let t = x.tree_is in let ts = rest.trees_are in rw (t, ts);
@@ -219,3 +221,26 @@ hole_there limit a h = rw h
 
 pub hole_element : {a : Text} → IsUtf8 a → FoundItem element_of true absent a a
 hole_element {a} u = record { found = closed absent 0; tree_is = refl; cover_is = refl; utf8 = u; reads = λ limit fits. hole_item (λ h. hole_there limit a h) }
+
+-- ---- the elements of an array, of which some may be holes
+
+pub record ElementList (es : List Term) (a b : Text) : Type 0 where
+  pub hole : Bool
+  pub no_hole : last_absent es ≡ false → hole ≡ false
+  pub skip : (e : Term) → last_absent (e ∷ es) ≡ last_absent es
+  pub list : FoundList element_of hole es a b
+
+pub last_element : {e : Term} {a b : Text} → FoundItem element_of false e a b → ElementList (e ∷ []) a b
+last_element x = record { hole = false; no_hole = λ h. refl; skip = λ e. refl; list = last_found x }
+
+pub last_hole : {a b : Text} → FoundItem element_of true absent a b → ElementList (absent ∷ []) a b
+last_hole x = record { hole = true; no_hole = λ h. absurd (false≢true (sym h)); skip = λ e. refl; list = last_found x }
+
+pub and_element : {hole : Bool} {e : Term} {es : List Term} {a b c d : Text} → FoundItem element_of hole e a b → Seen (sign (codes ",")) b c → ElementList es c d → ElementList (e ∷ es) a d
+and_element {e = e} x tok rest = record { hole = rest.hole; no_hole = λ h. rest.no_hole (sym (rest.skip e) ∙ h); skip = λ e'. refl; list = and_found x tok rest.list }
+
+pub elements_found : {es : List Term} {a b : Text} → last_absent es ≡ false → ElementList es a b → FoundGroup element_of es a b
+elements_found h x = some_found (x.no_hole h) x.list
+
+pub elements_comma : {es : List Term} {a b c : Text} → ElementList es a b → Seen (sign (codes ",")) b c → FoundGroup element_of es a c
+elements_comma x tok = comma_found x.list tok

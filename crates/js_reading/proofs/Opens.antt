@@ -190,7 +190,7 @@ boolean_opens : (v : Bool) {a b : Text} → Word (truth v) a b → IsUtf8 a → 
 boolean_opens true tok u = leaf tok u refl refl refl refl
 boolean_opens false tok u = leaf tok u refl refl refl refl
 
-bare_new_opens : {i : Bool} {e : Term} {a b : Text} → BareNew i e a b → IsUtf8 a → Opens e a
+pub bare_new_opens : {i : Bool} {e : Term} {a b : Text} → BareNew i e a b → IsUtf8 a → Opens e a
 bare_new_opens (spell.new_member tok h s) u = leaf tok u refl refl refl refl
 bare_new_opens (spell.new_new tok s) u = leaf tok u refl refl refl refl
 
