@@ -35,3 +35,4 @@ pub mod Shapes
 pub mod Dispatching
 pub mod Completing
 pub mod Templating
+pub mod Ending
