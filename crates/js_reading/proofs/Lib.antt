@@ -36,3 +36,4 @@ pub mod Dispatching
 pub mod Completing
 pub mod Templating
 pub mod Ending
+pub mod StatementStarts
