@@ -37,3 +37,4 @@ pub mod Completing
 pub mod Templating
 pub mod Ending
 pub mod StatementStarts
+pub mod StatementsThere
