@@ -6,8 +6,8 @@ use Rattle.js_term.specs.declared.kind.Kind.{Kind}
 use Rattle.js_syntax.specs.Nodes.{rested}
 use Rattle.js_syntax.specs.Tokens.{Sign}
 use Rattle.js_syntax.specs.Spelling as spell
-use Rattle.js_syntax.specs.Spelling.{Stands, Expression, Item, Listed, Group, Rested, Arguments, ImportOptions, Access, Link, Spine, BareNew, Template, Parameters, FunctionText, ClassText, Body, ArrowHead, ArrowBody, Target}
-use Rattle.js_reading.proofs.TokensThere.{Seen, see, see_sign, see_word, see_regexp, on_line}
+use Rattle.js_syntax.specs.Spelling.{Stands, Expression, Item, Listed, Group, Rested, Arguments, ImportOptions, Access, Link, Spine, BareNew, Template, TemplateRest, Parameters, FunctionText, ClassText, Body, ArrowHead, ArrowBody, Target}
+use Rattle.js_reading.proofs.TokensThere.{Seen, see, see_sign, see_word, see_regexp, see_tail, on_line}
 use Rattle.js_reading.proofs.Opens.{stands_opens}
 use Rattle.js_reading.proofs.Leaves.{identifier_read, this_read, null_read, boolean_read, number_read, bigint_read, string_read, regexp_read}
 use Rattle.js_reading.proofs.Operations.{see_operator, operator_utf8}
@@ -16,13 +16,13 @@ use Rattle.js_reading.proofs.Links.{SpineRead, dot_link, private_dot_link, brack
 use Rattle.js_reading.proofs.Calls.{CallRead, BareRead, bare_member_read, bare_bare_read, bare_construction_read, new_target_read, import_meta_read, OptionsRead, no_options_read, no_options_comma_read, options_read, options_comma_read}
 use Rattle.js_reading.proofs.Grouped.{property_of, array_read, object_read, ParenList, last_paren, and_paren, single_paren, sequence_paren, IsReadTemplate}
 use Rattle.js_reading.proofs.Arrows.{TargetRead, simple_target_read, ArrowBodyRead, concise_body_read, HeadRead, name_head_read, async_name_head_read, ParametersRead, parameters_head_read, async_parameters_head_read}
+use Rattle.js_reading.proofs.Templating.{whole_template_read, template_parts_read, IsReadQuasis, template_end_read, template_more_read}
 use Rattle.js_reading.proofs.Claims.{IsReadFunction, IsReadClass}
 use Rattle.js_reading.proofs.Shapes.{Shape, stands_shape, function_full, class_full}
 use Rattle.js_reading.proofs.Dispatching.{AccessFound, by_chain, by_dot, by_bracket, LinkFound, access_link, member_stands, super_member_stands, tagged_stands, template_stands, call_stands, super_call_stands, construction_stands, call_text, call_linked, call_chained, first_spine, next_spine, chain_stands, update_behind_stands, update_before_stands, unary_stands, await_stands, exponentiation_stands, binary_stands, private_in_stands, conjunction_stands, disjunction_stands, coalescing_stands, conditional_stands, assignment_stands, arrow_stands, bare_yield_stands, yielding_stands, delegating_stands, import_call_stands, function_stands, class_stands, stands_starts, bare_starts, no_spread}
 
 -- what is read of the other parts that stand in an expression
 pub record OtherParts : Type 0 where
-  pub template_text_read : {sound : Bool} {qs es : List Term} {a b : Text} → Template sound qs es a b → IsUtf8 a → IsReadTemplate sound qs es a b
   pub property_group_read : {es : List Term} {a b : Text} → Group spell.property_item es a b → IsUtf8 a → FoundGroup property_of es a b
   pub function_text_read : {k : Kind} {f : Term} {a b : Text} → FunctionText k f a b → IsUtf8 a → IsReadFunction k f a b
   pub class_text_read : {k : Kind} {c : Term} {a b : Text} → ClassText k c a b → IsUtf8 a → IsReadClass k c a b
@@ -42,7 +42,7 @@ module _ (other : OtherParts) where
     stands_read (spell.bigint tok) u = let x = see tok u refl in stands (bigint_read x) x.utf8
     stands_read (spell.string_literal tok) u = let x = see tok u refl in stands (string_read x) x.utf8
     stands_read (spell.regexp_literal tok) u = let x = see_regexp tok u in stands (regexp_read x) x.utf8
-    stands_read (spell.template t) u = template_stands (other.template_text_read t u)
+    stands_read (spell.template t) u = template_stands (template_text_read t u)
     stands_read (spell.array x g y) u = let t = see_sign x u in let r = element_group_read g t.utf8 in array_read t r (see_sign y r.utf8)
     stands_read (spell.object x g y) u = let t = see_sign x u in let r = other.property_group_read g t.utf8 in object_read t r (see_sign y r.utf8)
     stands_read (spell.function_expression f) u = function_stands (function_full f) (other.function_text_read f u)
@@ -53,7 +53,7 @@ module _ (other : OtherParts) where
     stands_read (spell.new_target x y z) u = let t = see_word x u in let t' = see_sign y t.utf8 in let t'' = see_word z t'.utf8 in stands (new_target_read t t' t'') t''.utf8
     stands_read (spell.member h o x) u = let r = stands_read o u in member_stands h r (access_read x r.utf8)
     stands_read (spell.super_member tok x h) u = let t = see_word tok u in super_member_stands t (access_read x t.utf8) h
-    stands_read (spell.tagged h t q) u = let r = stands_read t u in tagged_stands h r (other.template_text_read q r.utf8)
+    stands_read (spell.tagged h t q) u = let r = stands_read t u in tagged_stands h r (template_text_read q r.utf8)
     stands_read (spell.construction tok h f es) u = let t = see_word tok u in let r = stands_read f t.utf8 in construction_stands t h (stands_starts f t.utf8) r (call_text_read es r.utf8)
     stands_read (spell.bare_construction s) u = let r = bare_read s u in stands (bare_construction_read r) r.utf8
     stands_read (spell.call h f es) u = let r = stands_read f u in call_stands h (stands_shape f) u r (call_text_read es r.utf8)
@@ -153,6 +153,16 @@ module _ (other : OtherParts) where
     bare_read : {i : Bool} {e : Term} {a b : Text} → BareNew i e a b → IsUtf8 a → BareRead i e a b
     bare_read (spell.new_member tok h s) u = let t = see_word tok u in let r = stands_read s t.utf8 in bare_member_read t h (stands_starts s t.utf8) r.read r.utf8
     bare_read (spell.new_new tok s) u = let t = see_word tok u in bare_bare_read t (bare_starts s t.utf8) (bare_read s t.utf8)
+
+    -- templates
+
+    template_text_read : {sound : Bool} {qs es : List Term} {a b : Text} → Template sound qs es a b → IsUtf8 a → IsReadTemplate sound qs es a b
+    template_text_read (spell.whole_template h tok) u = whole_template_read h (see tok u refl)
+    template_text_read (spell.template_parts h tok e rest) u = let t = see tok u refl in let r = expression_read e t.utf8 in template_parts_read h t r (quasis_read rest r.utf8)
+
+    quasis_read : {sound : Bool} {qs es : List Term} {a b : Text} → TemplateRest sound qs es a b → IsUtf8 a → IsReadQuasis sound qs es a b
+    quasis_read (spell.template_end h tok) u = template_end_read h (see_tail tok u refl)
+    quasis_read (spell.template_more h tok e rest) u = let t = see_tail tok u refl in let r = expression_read e t.utf8 in template_more_read h t r (quasis_read rest r.utf8)
 
     -- arrows
 

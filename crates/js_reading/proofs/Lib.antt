@@ -32,5 +32,5 @@ pub mod Grouped
 pub mod Arrows
 pub mod Shapes
 pub mod Dispatching
-pub mod Completing
 pub mod Templating
+pub mod Completing
