@@ -33,4 +33,5 @@ pub mod Arrows
 pub mod Shapes
 pub mod Dispatching
 pub mod Templating
+pub mod Fields
 pub mod Completing
