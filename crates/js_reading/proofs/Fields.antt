@@ -5,8 +5,8 @@ use Rattle.std.proofs.lemmas.Bool.{false≢true, not-true}
 use Rattle.js_term.specs.Term.{Text, is_text, Term, list, node, none, depth}
 use Rattle.js_term.specs.declared.kind.Kind.{Kind}
 use Rattle.js_term.specs.Lexeme.{is_reserved, is_one_of}
-use Rattle.js_term.specs.Node.{name_of, identifier_of}
-use Rattle.js_syntax.specs.Nodes.{of_part, property}
+use Rattle.js_term.specs.Node.{name_of, string_of, number_of, identifier_of}
+use Rattle.js_syntax.specs.Nodes.{of_text, of_part, property}
 use Rattle.js_syntax.specs.Tokens.{Lexeme, word, private_name, number, big_integer, string, regexp, no_substitution, template_head, template_middle, template_tail, sign}
 use Rattle.js_syntax.proofs.Fronts.{among}
 use Rattle.js_tokens.specs.Next.{lexeme, after}
@@ -21,7 +21,7 @@ use Rattle.js_reading.proofs.Lists.{seen_sign, is_closing, is_end, separates, is
 use Rattle.js_reading.proofs.Climbs.{whole, IsRead}
 use Rattle.js_reading.proofs.Listings.{StandsRead, FoundItem, found_expression}
 use Rattle.js_reading.proofs.Grouped.{property_of}
-use Rattle.js_reading.proofs.Templating.{IsReadKey, name_key_read}
+use Rattle.js_reading.proofs.Templating.{IsReadKey, name_key_read, string_key_read, number_key_read, bigint_key_read, computed_key_read}
 
 -- ---- what modifies nothing
 
@@ -118,6 +118,24 @@ other_goes {a = a} limit x h fits = key_goes (read limit) (lexeme a) a h ∙ ap 
 
 pub other_item : {computed : Bool} {k : Term} {a b : Text} → IsReadKey computed k a b → begins_by_key (lexeme a) ≡ true → KeyItem computed k a b
 other_item {a = a} x h = record { key_read = x; open' = key_open (lexeme a) h; goes = λ limit fits colon. other_goes limit x h fits }
+
+pub string_item : {raw v a b : Text} → Seen (string raw v) a b → KeyItem false (string_of v) a b
+string_item tok = other_item (string_key_read tok) (ap begins_by_key tok.lexeme_is)
+
+pub number_item : {raw a b : Text} → Seen (number raw) a b → KeyItem false (number_of raw) a b
+number_item tok = other_item (number_key_read tok) (ap begins_by_key tok.lexeme_is)
+
+pub bigint_item : {raw a b : Text} → Seen (big_integer raw) a b → KeyItem false (of_text Kind.BigIntLiteral raw) a b
+bigint_item tok = other_item (bigint_key_read tok) (ap begins_by_key tok.lexeme_is)
+
+pub computed_item : {n : ℕ} {e : Term} {a b c d : Text} → Seen (sign (codes "[")) a b → StandsRead true n e b c → Seen (sign (codes "]")) c d → KeyItem true e a d
+computed_item tok x tok' = other_item (computed_key_read tok x tok') (ap begins_by_key tok.lexeme_is)
+
+pub item_key : {computed : Bool} {k : Term} {a b : Text} → KeyItem computed k a b → IsReadKey computed k a b
+item_key x = x.key_read
+
+pub item_utf8 : {computed : Bool} {k : Term} {a b : Text} → KeyItem computed k a b → IsUtf8 b
+item_utf8 x = let r = x.key_read in r.utf8
 
 pub property_field : {n : ℕ} {computed : Bool} {k e : Term} {a b c d : Text} → KeyItem computed k a b → Seen (sign (codes ":")) b c → StandsRead true n e c d → FoundItem property_of false (property (codes "init") false false computed k e) a d
 property_field {n} {computed} {k} {e} x tok y = let r = y.read in let kr = x.key_read in record {
