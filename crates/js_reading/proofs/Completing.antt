@@ -1,14 +1,14 @@
 -- What is spelled as an expression is read.
-use Rattle.std.proofs.Common.{◌≡◌, ◌≤◌, ℕ, Bool, true, false, List, [], ◌∷◌, refl, codes}
+use Rattle.std.proofs.Common.{◌≡◌, ℕ, Bool, true, false, List, refl, codes}
 use Rattle.std.specs.Str.{IsUtf8}
-use Rattle.js_term.specs.Term.{Text, Term, list, node, none, all}
+use Rattle.js_term.specs.Term.{Text, Term}
 use Rattle.js_term.specs.declared.kind.Kind.{Kind}
 use Rattle.js_syntax.specs.Nodes.{rested, property}
 use Rattle.js_syntax.specs.Edges.{no_private}
 use Rattle.js_syntax.specs.Tokens.{Sign}
 use Rattle.js_syntax.specs.Spelling as spell
 use Rattle.js_syntax.specs.Spelling.{Stands, Expression, Item, Listed, Group, Rested, Arguments, ImportOptions, Access, Link, Spine, Method, Accessor, BareNew, Template, TemplateRest, Parameters, FunctionText, ClassText, Body, ArrowHead, ArrowBody, Target}
-use Rattle.js_reading.proofs.TokensThere.{Seen, see, see_sign, see_word, see_regexp, see_tail, on_line}
+use Rattle.js_reading.proofs.TokensThere.{see, see_sign, see_word, see_regexp, see_tail, on_line}
 use Rattle.js_reading.proofs.Opens.{stands_opens}
 use Rattle.js_reading.proofs.Leaves.{identifier_read, this_read, null_read, boolean_read, number_read, bigint_read, string_read, regexp_read}
 use Rattle.js_reading.proofs.Operations.{see_operator, operator_utf8}
@@ -18,9 +18,9 @@ use Rattle.js_reading.proofs.Calls.{CallRead, BareRead, bare_member_read, bare_b
 use Rattle.js_reading.proofs.Grouped.{property_of, array_read, object_read, ParenList, last_paren, and_paren, single_paren, sequence_paren, IsReadTemplate}
 use Rattle.js_reading.proofs.Arrows.{TargetRead, simple_target_read, ArrowBodyRead, concise_body_read, HeadRead, name_head_read, async_name_head_read, ParametersRead, parameters_head_read, async_parameters_head_read}
 use Rattle.js_reading.proofs.Fields.{KeyItem, name_item, string_item, number_item, bigint_item, computed_item, item_key, item_utf8, property_field, shorthand_field, spread_field}
-use Rattle.js_reading.proofs.Templating.{IsReadKey, IsReadMemberKey, public_key_read, private_key_read, whole_template_read, template_parts_read, IsReadQuasis, template_end_read, template_more_read}
+use Rattle.js_reading.proofs.Templating.{IsReadMemberKey, public_key_read, private_key_read, whole_template_read, template_parts_read, IsReadQuasis, template_end_read, template_more_read}
 use Rattle.js_reading.proofs.Claims.{IsReadFunction, IsReadClass}
-use Rattle.js_reading.proofs.Shapes.{Shape, stands_shape, function_full, class_full}
+use Rattle.js_reading.proofs.Shapes.{stands_shape, function_full, class_full}
 use Rattle.js_reading.proofs.Dispatching.{AccessFound, by_chain, by_dot, by_bracket, LinkFound, access_link, member_stands, super_member_stands, tagged_stands, template_stands, call_stands, super_call_stands, construction_stands, call_text, call_linked, call_chained, first_spine, next_spine, chain_stands, update_behind_stands, update_before_stands, unary_stands, await_stands, exponentiation_stands, binary_stands, private_in_stands, conjunction_stands, disjunction_stands, coalescing_stands, conditional_stands, assignment_stands, arrow_stands, bare_yield_stands, yielding_stands, delegating_stands, import_call_stands, function_stands, class_stands, stands_starts, bare_starts, no_spread}
 
 -- what is read of the other parts that stand in an expression

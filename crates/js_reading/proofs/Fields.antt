@@ -1,19 +1,18 @@
 -- Properties of an object that stand in a text are read: values, names alone, and spreads.
-use Rattle.std.proofs.Common.{◌≡◌, ◌≤◌, ◌<◌, ℕ, Bool, true, false, not, ◌&&◌, ◌||◌, if◌then◌else◌, List, [], ◌∷◌, length, Option, Some, None, refl, sym, subst, ◌∙◌, ap, arith, codes}
+use Rattle.std.proofs.Common.{◌≡◌, ◌≤◌, ℕ, Bool, true, false, not, ◌&&◌, ◌||◌, if◌then◌else◌, [], ◌∷◌, Option, Some, None, refl, sym, ◌∙◌, ap, arith, codes}
 use Rattle.std.specs.Str.{IsUtf8}
 use Rattle.std.proofs.lemmas.Bool.{false≢true, not-true}
-use Rattle.js_term.specs.Term.{Text, is_text, Term, list, node, none, depth}
+use Rattle.js_term.specs.Term.{Text, is_text, Term, depth}
 use Rattle.js_term.specs.declared.kind.Kind.{Kind}
 use Rattle.js_term.specs.Lexeme.{is_reserved, is_one_of}
 use Rattle.js_term.specs.Node.{name_of, string_of, number_of, identifier_of}
 use Rattle.js_syntax.specs.Nodes.{of_text, of_part, property}
 use Rattle.js_syntax.specs.Tokens.{Lexeme, word, private_name, number, big_integer, string, regexp, no_substitution, template_head, template_middle, template_tail, sign}
 use Rattle.js_syntax.proofs.Fronts.{among}
-use Rattle.js_tokens.specs.Next.{lexeme, after}
+use Rattle.js_tokens.specs.Next.{lexeme}
 use Rattle.js_reading.specs.declared.goal.Goal.{Goal}
-use Rattle.js_reading.specs.declared.goal.Goal.TheVariants as goal
-use Rattle.js_reading.specs.Reading.{Found, closed, Reading, ◌>>=◌, is_sign, sees, same_line, begins_key_by, begins_key_at}
-use Rattle.js_reading.specs.Parts.{Key, key, spread, spread_of}
+use Rattle.js_reading.specs.Reading.{Found, Reading, ◌>>=◌, is_sign, sees, same_line, begins_key_by, begins_key_at}
+use Rattle.js_reading.specs.Parts.{Key, key, spread}
 use Rattle.js_reading.specs.Literals.{modifies_method, is_accessor, pair_found, shorthand_found, valued, behind_key, shorthand, named_property, property_by, property_item}
 use Rattle.js_reading.specs.Read.{read}
 use Rattle.js_reading.proofs.TokensThere.{Seen, sees_by}
@@ -77,8 +76,9 @@ begins_by_key o = true
 key_goes : (sub : Goal → Text → Reading Found) (o : Option Lexeme) (a : Text) → begins_by_key o ≡ true → property_by sub o a ≡ (key sub a >>= behind_key sub)
 key_goes sub (Some (word x)) a h = absurd (false≢true h)
 key_goes sub (Some (sign s)) a h = rw (
-    not-true (is_text s (codes "...")) (among (λ t. not (is_text t (codes "..."))) (codes "[" ∷ []) s refl (or_false (is_text s (codes "[")) h)),
-    not-true (is_text s (codes "*")) (among (λ t. not (is_text t (codes "*"))) (codes "[" ∷ []) s refl (or_false (is_text s (codes "[")) h)))
+  not-true (is_text s (codes "...")) (among (λ t. not (is_text t (codes "..."))) (codes "[" ∷ []) s refl (or_false (is_text s (codes "[")) h)),
+  not-true (is_text s (codes "*")) (among (λ t. not (is_text t (codes "*"))) (codes "[" ∷ []) s refl (or_false (is_text s (codes "[")) h)),
+)
   where
     or_false : (b : Bool) → b ≡ true → (b || false) ≡ true
     or_false true h = refl

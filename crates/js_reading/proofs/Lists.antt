@@ -1,12 +1,12 @@
 -- Lists that stand in a text are read.
-use Rattle.std.proofs.Common.{◌≡◌, ◌≤◌, ◌<◌, ℕ, zero, suc, Bool, true, false, not, ◌&&◌, ◌||◌, if◌then◌else◌, List, [], ◌∷◌, ◌++◌, length, Option, Some, None, refl, sym, subst, ◌∙◌, ap, append_assoc, arith, codes}
+use Rattle.std.proofs.Common.{◌≡◌, ◌≤◌, ◌<◌, ℕ, zero, suc, Bool, true, false, not, List, [], ◌∷◌, ◌++◌, length, Option, Some, None, refl, sym, ◌∙◌, ap, append_assoc, arith, codes}
 use Rattle.std.proofs.lemmas.Bool.{false≢true, not-true}
 use Rattle.js_term.specs.Term.{Text, is_text}
 use Rattle.js_term.specs.Lexeme.{is_one_of}
 use Rattle.js_syntax.specs.Tokens.{Lexeme, word, private_name, number, big_integer, string, regexp, no_substitution, template_head, template_middle, template_tail, sign}
 use Rattle.js_syntax.proofs.Fronts.{same_text, among}
-use Rattle.js_tokens.specs.Next.{lexeme, after}
-use Rattle.js_reading.specs.Reading.{Reading, ◌>>=◌, is_sign, sees, separated, items, group}
+use Rattle.js_tokens.specs.Next.{lexeme}
+use Rattle.js_reading.specs.Reading.{Reading, is_sign, sees, separated, items, group}
 use Rattle.js_reading.proofs.TokensThere.{Seen, sees_by}
 use Rattle.js_reading.proofs.Opens.{begins, begins_by}
 
