@@ -35,3 +35,4 @@ pub mod Dispatching
 pub mod Templating
 pub mod Fields
 pub mod Completing
+pub mod Endings
