@@ -1,31 +1,29 @@
 -- Assignments and arrow functions that stand in a text are read.
-use Rattle.std.proofs.Common.{◌≡◌, ◌≤◌, ◌<◌, ℕ, zero, suc, Bool, true, false, not, ◌&&◌, ◌||◌, if◌then◌else◌, nat_le, nat_eq, map, List, [], ◌∷◌, ◌++◌, length, Option, Some, None, refl, sym, subst, ◌∙◌, ap, arith, codes}
+use Rattle.std.proofs.Common.{◌≡◌, ◌≤◌, ◌<◌, ℕ, suc, Bool, true, false, not, ◌&&◌, ◌||◌, if◌then◌else◌, nat_le, nat_eq, List, [], ◌∷◌, length, Some, refl, sym, subst, ◌∙◌, ap, arith, codes}
 use Rattle.std.specs.Str.{IsUtf8}
-use Rattle.std.proofs.lemmas.Bool.{false≢true, not-true, eqb-true, le-leb, and_from}
-use Rattle.js_term.specs.Term.{Text, is_text, Term, Terms, absent, list, node, none, one, two, all, depth, depths}
+use Rattle.std.proofs.lemmas.Bool.{false≢true, not-true, eqb-true, le-leb}
+use Rattle.js_term.specs.Term.{Text, is_text, Term, node, two, depth}
 use Rattle.js_term.specs.declared.kind.Kind.{Kind}
 use Rattle.js_term.specs.Lexeme.{is_reserved, is_one_of}
-use Rattle.js_term.specs.Node.{binding_of, identifier_of}
-use Rattle.js_syntax.specs.Nodes.{marked, rested, parameter_of}
+use Rattle.js_syntax.specs.Nodes.{marked}
 use Rattle.js_syntax.specs.Texts.{assignment_operators}
-use Rattle.js_syntax.specs.Tokens.{Lexeme, word, sign}
-use Rattle.js_syntax.specs.Edges.{Edge, full, loose, edge, is_simple_target, is_update, member_level, is_coalesce_left, begins_with_brace}
+use Rattle.js_syntax.specs.Tokens.{word, sign}
+use Rattle.js_syntax.specs.Edges.{loose, edge, is_simple_target, is_update, member_level, is_coalesce_left, begins_with_brace}
 use Rattle.js_syntax.proofs.Fronts.{same_text, among}
-use Rattle.js_tokens.specs.Next.{lexeme, after}
 use Rattle.js_reading.specs.declared.goal.Goal.{Goal}
 use Rattle.js_reading.specs.declared.goal.Goal.TheVariants as goal
-use Rattle.js_reading.specs.Reading.{Found, closed, Reading, ◌>>=◌, sees, sees_word, same_line, arrow_here, expect, group}
+use Rattle.js_reading.specs.Reading.{Found, closed, Reading, sees, same_line, arrow_here}
 use Rattle.js_reading.specs.Operators.{sign_binds, sign_gives, sign_needs}
 use Rattle.js_reading.specs.Targets.{target_of}
-use Rattle.js_reading.specs.Parts.{part, item}
+use Rattle.js_reading.specs.Parts.{part}
 use Rattle.js_reading.specs.Functions.{body}
-use Rattle.js_reading.specs.Expressions.{at, target_in, assigned_in, parameters_in, named_parameters, is_arrow_name, arrow_body, arrow, arrow_by, parenthesized, async_parenthesized, named, async_named_by, async_by, async_expression, operated, assigned_by, extended, word_prefix, prefix}
+use Rattle.js_reading.specs.Expressions.{assigned_in, parameters_in, named_parameters, arrow_body, arrow, parenthesized, async_parenthesized, named, async_by, async_expression, extended, word_prefix, prefix}
 use Rattle.js_reading.specs.Read.{read}
 use Rattle.js_reading.proofs.TokensThere.{Seen, sees_by, sees_word_by, expect_read}
 use Rattle.js_reading.proofs.Opens.{Opens}
 use Rattle.js_reading.proofs.Lists.{ReadsGroup}
-use Rattle.js_reading.proofs.Follows.{holds, Ends, is_full, is_updated, is_loose, either_case}
-use Rattle.js_reading.proofs.Climbs.{whole, quiet, quiet_other, IsRead, right_read, sign_joins, joined_read, lower_read, ends_low}
+use Rattle.js_reading.proofs.Follows.{holds, Ends, is_loose}
+use Rattle.js_reading.proofs.Climbs.{whole, quiet_other, IsRead, right_read, sign_joins, joined_read, lower_read, ends_low}
 use Rattle.js_reading.proofs.Leaves.{not_text, word_there}
 use Rattle.js_reading.proofs.Leaves as leaves
 use Rattle.js_reading.proofs.Listings.{StandsRead, item_of}
@@ -69,14 +67,15 @@ assignment_read {i} {n} {op} {t} {e} {q} {a} {b} {c} {d} is allowed x tok r =
     let binds_is : sign_binds op ≡ 2 = eqb-true (sign_binds op) 2 (among (λ s. nat_eq (sign_binds s) 2) assignment_operators op refl is) in
     let needs_is : sign_needs op ≡ 19 = eqb-true (sign_needs op) 19 (among (λ s. nat_eq (sign_needs s) 19) assignment_operators op refl is) in
     joined_read 1 left
-        (sign_joins tok (omega arith) (gives_two f.level op is binds_is) (omega arith) (not-true (is_update op) (among (λ s. not (is_update s)) assignment_operators op refl is)) (no_coalesce f.level op is) (not-true (is_text op (codes "=>")) (among (λ s. not (is_text s (codes "=>"))) assignment_operators op refl is)))
-        (quiet_other f.tree b (sees_by (codes "(") tok ∙ not-true (is_text op (codes "(")) (among (λ s. not (is_text s (codes "("))) assignment_operators op refl is)))
-        (omega arith) (omega arith) (omega arith) (omega arith) (let k = left.calls high in omega arith) (let s = tok.shorter in let s' = r.shorter in omega arith)
-        (ends_low r.ends) (omega arith) (λ h. absurd (omega arith)) (λ h. absurd (omega arith)) (λ h. absurd (omega arith))
-        (λ limit fits h. assignment_there limit f op is (x.assigned op allowed) tok r (omega arith) h)
+    (sign_joins tok (omega arith) (gives_two f.level op is binds_is) (omega arith) (not-true (is_update op) (among (λ s. not (is_update s)) assignment_operators op refl is)) (no_coalesce f.level op is) (not-true (is_text op (codes "=>")) (among (λ s. not (is_text s (codes "=>"))) assignment_operators op refl is)))
+    (quiet_other f.tree b (sees_by (codes "(") tok ∙ not-true (is_text op (codes "(")) (among (λ s. not (is_text s (codes "("))) assignment_operators op refl is)))
+    (omega arith) (omega arith) (omega arith) (omega arith) (let k = left.calls high in omega arith) (let s = tok.shorter in let s' = r.shorter in omega arith)
+    (ends_low r.ends) (omega arith) (λ h. absurd (omega arith)) (λ h. absurd (omega arith)) (λ h. absurd (omega arith))
+    (λ limit fits h. assignment_there limit f op is (x.assigned op allowed) tok r (omega arith) h)
   where
     gives_two : (n : ℕ) (op : Text) → is_one_of op assignment_operators ≡ true → sign_binds op ≡ 2 → sign_gives n op ≡ 2
     gives_two n op is e = ap (λ (z : Bool). if z then member_level n else sign_binds op) (not-true (is_one_of op (codes "[" ∷ codes "." ∷ [])) (among (λ s. not (is_one_of s (codes "[" ∷ codes "." ∷ []))) assignment_operators op refl is)) ∙ e
+
     no_coalesce : (n : ℕ) (op : Text) → is_one_of op assignment_operators ≡ true → not (is_text op (codes "??")) || is_coalesce_left n ≡ true
     no_coalesce n op is = rw (not-true (is_text op (codes "??")) (among (λ s. not (is_text s (codes "??"))) assignment_operators op refl is)) refl
 
@@ -122,7 +121,7 @@ arrow_there limit async ps x fits h = rw (x.reads limit fits h)
 pub arrow_read : {i : Bool} {async : Text} {ps t : Term} {a b c d : Text} → HeadRead async ps a b → same_line b ≡ true → Seen (sign (codes "=>")) b c → ArrowBodyRead i t c d → IsRead i (depth (marked Kind.ArrowFunctionExpression async (two ps t))) (closed (marked Kind.ArrowFunctionExpression async (two ps t)) 2) a d
 arrow_read {i} {async} {ps} x line tok y =
     lower_read 1 (let s1 = x.shorter in let s2 = tok.shorter in let s3 = y.shorter in omega arith) (omega arith) (omega arith) y.ends (omega arith) (λ h. absurd (omega arith)) (λ h. absurd (omega arith)) (λ h. absurd (omega arith))
-        (λ limit least low fits h. x.reads i limit least low (omega arith) line tok ∙ arrow_there limit async ps y (omega arith) h)
+    (λ limit least low fits h. x.reads i limit least low (omega arith) line tok ∙ arrow_there limit async ps y (omega arith) h)
 
 arrow_seen : {b c : Text} → same_line b ≡ true → Seen (sign (codes "=>")) b c → arrow_here b ≡ true
 unfolding arrow_here

@@ -1,30 +1,29 @@
 -- Calls, `new`, `super` and imports that stand in a text are read.
-use Rattle.std.proofs.Common.{◌≡◌, ◌≤◌, ◌<◌, ℕ, zero, suc, Bool, true, false, not, ◌&&◌, ◌||◌, if◌then◌else◌, nat_le, nat_eq, map, List, [], ◌∷◌, ◌++◌, length, Option, Some, None, refl, sym, subst, ◌⊎◌, inl, inr, ◌∙◌, ap, arith, codes}
+use Rattle.std.proofs.Common.{◌≡◌, ◌≤◌, ◌<◌, ℕ, zero, suc, Bool, true, false, ◌&&◌, if◌then◌else◌, nat_le, List, length, Some, None, refl, sym, subst, ◌⊎◌, inl, inr, ◌∙◌, ap, arith, codes}
 use Rattle.std.specs.Str.{IsUtf8}
-use Rattle.std.proofs.lemmas.Bool.{false≢true, not-true, leb-true, le-leb, lt-leb, cases_lt}
-use Rattle.js_term.specs.Term.{Text, is_text, Term, Terms, absent, list, node, none, one, two, all, depth, depths}
+use Rattle.std.proofs.lemmas.Bool.{false≢true, le-leb, lt-leb, cases_lt}
+use Rattle.js_term.specs.Term.{Text, Term, absent, none, all, depth, depths}
 use Rattle.js_term.specs.declared.kind.Kind.{Kind}
-use Rattle.js_term.specs.Lexeme.{is_reserved, is_one_of}
 use Rattle.js_term.specs.Node.{identifier_of}
-use Rattle.js_syntax.specs.Nodes.{alone, of_part, of_parts, call_link, super_of, new_of}
-use Rattle.js_syntax.specs.Tokens.{Lexeme, word, sign}
+use Rattle.js_syntax.specs.Nodes.{alone, of_parts, call_link, super_of, new_of}
+use Rattle.js_syntax.specs.Tokens.{word, sign}
 use Rattle.js_syntax.specs.Edges.{Edge, full, edge, is_private_member}
 use Rattle.js_tokens.specs.Next.{lexeme, after}
 use Rattle.js_reading.specs.declared.goal.Goal.{Goal}
 use Rattle.js_reading.specs.declared.goal.Goal.TheVariants as goal
-use Rattle.js_reading.specs.Reading.{Found, closed, Reading, ◌>>=◌, sees, sees_word, same_line, arrow_here, expect, expect_word, group, trees, any_cover}
+use Rattle.js_reading.specs.Reading.{Found, closed, Reading, ◌>>=◌, sees, same_line, arrow_here}
 use Rattle.js_reading.specs.Operators.{goes_on}
-use Rattle.js_reading.specs.Parts.{arguments, expression, item, part}
-use Rattle.js_reading.specs.Expressions.{at, is_bare_new, constructed_by, new_expression, second_argument, import_options, import_call, import_expression, dotted, computed, called, super_member, super_expression, async_call, async_parenthesized, async_by, async_expression, word_prefix, prefix, climb, at_level, callee, link_by}
-use Rattle.js_reading.specs.Read.{step, read}
+use Rattle.js_reading.specs.Parts.{arguments}
+use Rattle.js_reading.specs.Expressions.{at, is_bare_new, constructed_by, new_expression, second_argument, import_options, import_call, import_expression, super_member, super_expression, async_parenthesized, async_by, async_expression, prefix, climb, at_level, callee}
+use Rattle.js_reading.specs.Read.{read}
 use Rattle.js_reading.proofs.TokensThere.{Seen, sees_by, sees_word_by, expect_read, expect_word_read}
 use Rattle.js_reading.proofs.Opens.{begins, no_sign_there}
-use Rattle.js_reading.proofs.Lists.{is_end, ending_end, sees_sign, ReadsGroup}
-use Rattle.js_reading.proofs.Follows.{tightness, takes_name, sign_takes, holds, Ends, is_full, is_updated, is_loose, end_holds, stops, wider, either_case}
-use Rattle.js_reading.proofs.Climbs.{whole, quiet, quiet_not_async, quiet_broken, is_async, IsRead, Reach, first_reach, climb_stops, full_low, paren_tight, no_name, sign_joins, joined_read, lower_read, grow, right_read, Joins}
+use Rattle.js_reading.proofs.Lists.{is_end, ending_end, sees_sign}
+use Rattle.js_reading.proofs.Follows.{tightness, takes_name, sign_takes, holds, Ends, is_full, is_updated, is_loose, end_holds, stops, wider}
+use Rattle.js_reading.proofs.Climbs.{whole, quiet_not_async, quiet_broken, is_async, IsRead, Reach, first_reach, climb_stops, full_low, paren_tight, no_name, sign_joins, lower_read, grow, right_read}
 use Rattle.js_reading.proofs.Leaves.{word_there, no_arrow, name_prefix, leaf_read}
 use Rattle.js_reading.proofs.Operations.{extends_sign}
-use Rattle.js_reading.proofs.Listings.{IsReadExpression, expression_before, FoundGroup, item_of, StandsRead}
+use Rattle.js_reading.proofs.Listings.{FoundGroup, item_of}
 use Rattle.js_reading.proofs.Links.{LinkRead, ArgumentsRead, arguments_read, called_there, plain_call_read}
 
 -- ---- calls
@@ -88,9 +87,9 @@ async_call_read {i} {es} {a} {b} {c} tok line x =
         let args_tok = args.tok in
         let j = sign_joins {i = i} {m = 21} {k = 19} args.tok (omega arith) refl (omega arith) refl refl refl in
         grow limit least
-            (first_reach limit least (omega arith) (name_prefix (read limit) i least refl tok (sign_takes (codes "(") b args_tok.lexeme_is refl) (λ _ _. and_not (nat_le least 2) (sees (codes "(") b) (lt-leb least 2 above))))
-            (let s1 = args_tok.shorter in let s2 = args.shorter in omega arith) j.some (let g = j.gives_is in rw g low) j.needs_low j.suit
-            (extends_sign (read limit) i (identifier_of (codes "async")) 21 false args.tok refl ∙ ap (λ r. r >>= at 19) (called_there false (identifier_of (codes "async")) limit args (omega arith)))
+        (first_reach limit least (omega arith) (name_prefix (read limit) i least refl tok (sign_takes (codes "(") b args_tok.lexeme_is refl) (λ _ _. and_not (nat_le least 2) (sees (codes "(") b) (lt-leb least 2 above))))
+        (let s1 = args_tok.shorter in let s2 = args.shorter in omega arith) j.some (let g = j.gives_is in rw g low) j.needs_low j.suit
+        (extends_sign (read limit) i (identifier_of (codes "async")) 21 false args.tok refl ∙ ap (λ r. r >>= at 19) (called_there false (identifier_of (codes "async")) limit args (omega arith)))
 
 -- what is known of a callee that is the name `async`
 abbrev pub AsyncToken : Term → Text → Text → Type 0
@@ -113,6 +112,7 @@ callee_from sub i a x h = go (prefix sub i 20 a) h
     by_level : (t : Bool) (y z : Reading Found) → (if t then y else None) ≡ Some x → (if t then y else z) ≡ Some x
     by_level true y z h = h
     by_level false y z h = absurd (cc)
+
     go : (r : Reading Found) → (r >>= λ f b. if nat_le 20 f.level then climb sub i 20 (length b) f b else None) ≡ Some x → (r >>= λ f b. if nat_le 20 f.level then climb sub i 20 (length b) f b else if is_bare_new f.tree then Some (f, b) else None) ≡ Some x
     go None h = absurd (cc)
     go (Some y) h = by_level (nat_le 20 (y.0).level) _ _ h
@@ -150,7 +150,7 @@ pub construction_read : {i : Bool} {n : ℕ} {f : Term} {p : Bool} {es : List Te
 construction_read {i} tok high starts r x =
     let args_tok = x.tok in
     lower_read 21 (let s1 = tok.shorter in let s2 = r.shorter in let s3 = args_tok.shorter in let s4 = x.shorter in omega arith) (omega arith) (omega arith) (is_full refl) (omega arith) (λ h. omega arith) (λ h h'. absurd (omega arith)) (λ h. omega arith)
-        (λ limit least low fits h. word_there (read limit) i least tok ∙ constructed_there limit high starts r x (omega arith) (omega arith))
+    (λ limit least low fits h. word_there (read limit) i least tok ∙ constructed_there limit high starts r x (omega arith) (omega arith))
 
 -- a `new` without arguments, as an expression and as what is constructed
 pub record BareRead (i : Bool) (e : Term) (a b : Text) : Type 0 where
@@ -219,7 +219,7 @@ pub bare_construction_read : {i : Bool} {e : Term} {a b : Text} → BareRead i e
 bare_construction_read {i} {e} {b = b} r =
     let ends = r.ends in
     lower_read 17 r.shorter (omega arith) r.deep (is_full ends) (omega arith) (λ h. omega arith) (λ h h'. absurd (omega arith)) (λ h. absurd (omega arith))
-        (λ limit least low fits h. r.reads limit least fits (subst (λ x. holds i x 17 b ≡ true) ends h))
+    (λ limit least low fits h. r.reads limit least fits (subst (λ x. holds i x 17 b ≡ true) ends h))
 
 target_there : (sub : Goal → Text → Reading Found) (i : Bool) {b c d : Text} → Seen (sign (codes ".")) b c → Seen (word (codes "target")) c d → new_expression sub i b ≡ Some (closed (alone Kind.NewTarget) 21, d)
 unfolding new_expression
@@ -244,7 +244,7 @@ super_dot_read {i} tok x public =
     let link_tok = x.tok in
     let d = x.deep in
     lower_read 21 (let s1 = tok.shorter in let s2 = link_tok.shorter in let s3 = x.shorter in omega arith) (omega arith) (omega arith) (is_full ends) (omega arith) (λ h. omega arith) (λ h h'. absurd (omega arith)) (λ h. omega arith)
-        (λ limit least low fits h. word_there (read limit) i least tok ∙ super_dot_there limit x fits public)
+    (λ limit least low fits h. word_there (read limit) i least tok ∙ super_dot_there limit x fits public)
 
 pub super_bracket_read : {i : Bool} {e : Term} {a b c : Text} → Seen (word (codes "super")) a b → LinkRead (codes "[") super_of e b c → is_private_member e ≡ false → IsRead i (depth e) (closed e 20) a c
 super_bracket_read {i} tok x public =
@@ -252,7 +252,7 @@ super_bracket_read {i} tok x public =
     let link_tok = x.tok in
     let d = x.deep in
     lower_read 21 (let s1 = tok.shorter in let s2 = link_tok.shorter in let s3 = x.shorter in omega arith) (omega arith) (omega arith) (is_full ends) (omega arith) (λ h. omega arith) (λ h h'. absurd (omega arith)) (λ h. omega arith)
-        (λ limit least low fits h. word_there (read limit) i least tok ∙ super_bracket_there limit x fits public)
+    (λ limit least low fits h. word_there (read limit) i least tok ∙ super_bracket_there limit x fits public)
 
 super_call_there : {es : List Term} {b c : Text} (limit : ℕ) (x : ArgumentsRead es b c) → depths (all es) ≤ limit → super_expression (read limit) b ≡ Some (closed (call_link false super_of (all es)) 19, c)
 unfolding super_expression
@@ -262,7 +262,7 @@ pub super_call_read : {i : Bool} {es : List Term} {a b c : Text} → Seen (word 
 super_call_read {i} tok x =
     let link_tok = x.tok in
     lower_read 21 (let s1 = tok.shorter in let s2 = link_tok.shorter in let s3 = x.shorter in omega arith) (omega arith) (omega arith) (is_full refl) (omega arith) (λ h. omega arith) (λ h h'. absurd (omega arith)) (λ h. omega arith)
-        (λ limit least low fits h. word_there (read limit) i least tok ∙ super_call_there limit x (omega arith))
+    (λ limit least low fits h. word_there (read limit) i least tok ∙ super_call_there limit x (omega arith))
 
 -- ---- imports (13.3.10)
 
@@ -322,4 +322,4 @@ import_there {e = e} {d = d} limit tok r x tok' fits fits' =
 pub import_call_read : {i : Bool} {n : ℕ} {e o : Term} {p : Bool} {a b c d f g : Text} → Seen (word (codes "import")) a b → Seen (sign (codes "(")) b c → IsRead true (depth e) (whole e n p) c d → OptionsRead o d f → Seen (sign (codes ")")) f g → IsRead i (depth (of_parts Kind.ImportExpression e o)) (closed (of_parts Kind.ImportExpression e o) 19) a g
 import_call_read {i} tok tok' r x tok'' =
     lower_read 21 (let s1 = tok.shorter in let s2 = tok'.shorter in let s3 = r.shorter in let s4 = x.short in let s5 = tok''.shorter in omega arith) (omega arith) (omega arith) (is_full refl) (omega arith) (λ h. omega arith) (λ h h'. absurd (omega arith)) (λ h. omega arith)
-        (λ limit least low fits h. word_there (read limit) i least tok ∙ import_there limit tok' r x tok'' (omega arith) (omega arith))
+    (λ limit least low fits h. word_there (read limit) i least tok ∙ import_there limit tok' r x tok'' (omega arith) (omega arith))

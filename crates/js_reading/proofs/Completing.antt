@@ -1,13 +1,14 @@
 -- What is spelled as an expression is read.
-use Rattle.std.proofs.Common.{◌≡◌, ◌≤◌, ℕ, Bool, true, false, List, [], ◌∷◌, refl, codes}
+use Rattle.std.proofs.Common.{◌≡◌, ℕ, Bool, true, false, List, refl, codes}
 use Rattle.std.specs.Str.{IsUtf8}
-use Rattle.js_term.specs.Term.{Text, Term, list, node, none, all}
+use Rattle.js_term.specs.Term.{Text, Term}
 use Rattle.js_term.specs.declared.kind.Kind.{Kind}
-use Rattle.js_syntax.specs.Nodes.{rested}
+use Rattle.js_syntax.specs.Nodes.{rested, property}
+use Rattle.js_syntax.specs.Edges.{no_private}
 use Rattle.js_syntax.specs.Tokens.{Sign}
 use Rattle.js_syntax.specs.Spelling as spell
-use Rattle.js_syntax.specs.Spelling.{Stands, Expression, Item, Listed, Group, Rested, Arguments, ImportOptions, Access, Link, Spine, BareNew, Template, Parameters, FunctionText, ClassText, Body, ArrowHead, ArrowBody, Target}
-use Rattle.js_reading.proofs.TokensThere.{Seen, see, see_sign, see_word, see_regexp, on_line}
+use Rattle.js_syntax.specs.Spelling.{Stands, Expression, Item, Listed, Group, Rested, Arguments, ImportOptions, Access, Link, Spine, Method, Accessor, BareNew, Template, TemplateRest, Parameters, FunctionText, ClassText, Body, ArrowHead, ArrowBody, Target}
+use Rattle.js_reading.proofs.TokensThere.{see, see_sign, see_word, see_regexp, see_tail, on_line}
 use Rattle.js_reading.proofs.Opens.{stands_opens}
 use Rattle.js_reading.proofs.Leaves.{identifier_read, this_read, null_read, boolean_read, number_read, bigint_read, string_read, regexp_read}
 use Rattle.js_reading.proofs.Operations.{see_operator, operator_utf8}
@@ -16,14 +17,16 @@ use Rattle.js_reading.proofs.Links.{SpineRead, dot_link, private_dot_link, brack
 use Rattle.js_reading.proofs.Calls.{CallRead, BareRead, bare_member_read, bare_bare_read, bare_construction_read, new_target_read, import_meta_read, OptionsRead, no_options_read, no_options_comma_read, options_read, options_comma_read}
 use Rattle.js_reading.proofs.Grouped.{property_of, array_read, object_read, ParenList, last_paren, and_paren, single_paren, sequence_paren, IsReadTemplate}
 use Rattle.js_reading.proofs.Arrows.{TargetRead, simple_target_read, ArrowBodyRead, concise_body_read, HeadRead, name_head_read, async_name_head_read, ParametersRead, parameters_head_read, async_parameters_head_read}
+use Rattle.js_reading.proofs.Fields.{KeyItem, name_item, string_item, number_item, bigint_item, computed_item, item_key, item_utf8, property_field, shorthand_field, spread_field}
+use Rattle.js_reading.proofs.Templating.{IsReadMemberKey, public_key_read, private_key_read, whole_template_read, template_parts_read, IsReadQuasis, template_end_read, template_more_read}
 use Rattle.js_reading.proofs.Claims.{IsReadFunction, IsReadClass}
-use Rattle.js_reading.proofs.Shapes.{Shape, stands_shape, function_full, class_full}
+use Rattle.js_reading.proofs.Shapes.{stands_shape, function_full, class_full}
 use Rattle.js_reading.proofs.Dispatching.{AccessFound, by_chain, by_dot, by_bracket, LinkFound, access_link, member_stands, super_member_stands, tagged_stands, template_stands, call_stands, super_call_stands, construction_stands, call_text, call_linked, call_chained, first_spine, next_spine, chain_stands, update_behind_stands, update_before_stands, unary_stands, await_stands, exponentiation_stands, binary_stands, private_in_stands, conjunction_stands, disjunction_stands, coalescing_stands, conditional_stands, assignment_stands, arrow_stands, bare_yield_stands, yielding_stands, delegating_stands, import_call_stands, function_stands, class_stands, stands_starts, bare_starts, no_spread}
 
 -- what is read of the other parts that stand in an expression
 pub record OtherParts : Type 0 where
-  pub template_text_read : {sound : Bool} {qs es : List Term} {a b : Text} → Template sound qs es a b → IsUtf8 a → IsReadTemplate sound qs es a b
-  pub property_group_read : {es : List Term} {a b : Text} → Group spell.property_item es a b → IsUtf8 a → FoundGroup property_of es a b
+  pub method_field : {computed : Bool} {k f : Term} {a b : Text} → Method (codes "method") computed k f a b → no_private k ≡ true → IsUtf8 a → FoundItem property_of false (property (codes "init") true false computed k f) a b
+  pub accessor_field : {kind : Text} {computed : Bool} {k f : Term} {a b : Text} → Accessor kind computed k f a b → no_private k ≡ true → IsUtf8 a → FoundItem property_of false (property kind false false computed k f) a b
   pub function_text_read : {k : Kind} {f : Term} {a b : Text} → FunctionText k f a b → IsUtf8 a → IsReadFunction k f a b
   pub class_text_read : {k : Kind} {c : Term} {a b : Text} → ClassText k c a b → IsUtf8 a → IsReadClass k c a b
   pub object_target_read : {i : Bool} {ps : List Term} {r : Term} {a b c d : Text} → Sign (codes "{") a b → Rested true spell.target_property ps r b c → Sign (codes "}") c d → IsUtf8 a → TargetRead i (rested Kind.ObjectAssignmentTarget ps r) a d
@@ -42,9 +45,9 @@ module _ (other : OtherParts) where
     stands_read (spell.bigint tok) u = let x = see tok u refl in stands (bigint_read x) x.utf8
     stands_read (spell.string_literal tok) u = let x = see tok u refl in stands (string_read x) x.utf8
     stands_read (spell.regexp_literal tok) u = let x = see_regexp tok u in stands (regexp_read x) x.utf8
-    stands_read (spell.template t) u = template_stands (other.template_text_read t u)
+    stands_read (spell.template t) u = template_stands (template_text_read t u)
     stands_read (spell.array x g y) u = let t = see_sign x u in let r = element_group_read g t.utf8 in array_read t r (see_sign y r.utf8)
-    stands_read (spell.object x g y) u = let t = see_sign x u in let r = other.property_group_read g t.utf8 in object_read t r (see_sign y r.utf8)
+    stands_read (spell.object x g y) u = let t = see_sign x u in let r = property_group_read g t.utf8 in object_read t r (see_sign y r.utf8)
     stands_read (spell.function_expression f) u = function_stands (function_full f) (other.function_text_read f u)
     stands_read (spell.class_expression c) u = class_stands (class_full c) (other.class_text_read c u)
     stands_read (spell.parenthesized x (spell.single s) y) u = let t = see_sign x u in let r = stands_read s t.utf8 in let k = see_sign y r.utf8 in stands (single_paren t (last_paren r (stands_starts s t.utf8) (no_spread s)) k) k.utf8
@@ -53,7 +56,7 @@ module _ (other : OtherParts) where
     stands_read (spell.new_target x y z) u = let t = see_word x u in let t' = see_sign y t.utf8 in let t'' = see_word z t'.utf8 in stands (new_target_read t t' t'') t''.utf8
     stands_read (spell.member h o x) u = let r = stands_read o u in member_stands h r (access_read x r.utf8)
     stands_read (spell.super_member tok x h) u = let t = see_word tok u in super_member_stands t (access_read x t.utf8) h
-    stands_read (spell.tagged h t q) u = let r = stands_read t u in tagged_stands h r (other.template_text_read q r.utf8)
+    stands_read (spell.tagged h t q) u = let r = stands_read t u in tagged_stands h r (template_text_read q r.utf8)
     stands_read (spell.construction tok h f es) u = let t = see_word tok u in let r = stands_read f t.utf8 in construction_stands t h (stands_starts f t.utf8) r (call_text_read es r.utf8)
     stands_read (spell.bare_construction s) u = let r = bare_read s u in stands (bare_construction_read r) r.utf8
     stands_read (spell.call h f es) u = let r = stands_read f u in call_stands h (stands_shape f) u r (call_text_read es r.utf8)
@@ -122,6 +125,35 @@ module _ (other : OtherParts) where
     element_group_read (spell.items h l) u = elements_found h (element_list_read l u)
     element_group_read (spell.trailing l tok) u = let r = element_list_read l u in let g = r.list in elements_comma r (see_sign tok g.utf8)
 
+    -- properties
+
+    pub key_item_read : {computed : Bool} {k : Term} {a b : Text} → spell.Key computed k a b → IsUtf8 a → KeyItem computed k a b
+    key_item_read (spell.name_key tok) u = name_item (see_word tok u)
+    key_item_read (spell.string_key tok) u = string_item (see tok u refl)
+    key_item_read (spell.number_key tok) u = number_item (see tok u refl)
+    key_item_read (spell.bigint_key tok) u = bigint_item (see tok u refl)
+    key_item_read (spell.computed_key x e y) u = let t = see_sign x u in let r = stands_read e t.utf8 in computed_item t r (see_sign y r.utf8)
+
+    pub member_key_read : {computed : Bool} {k : Term} {a b : Text} → spell.MemberKey computed k a b → IsUtf8 a → IsReadMemberKey computed k a b
+    member_key_read (spell.public_key k) u = public_key_read (item_key (key_item_read k u))
+    member_key_read (spell.private_key tok) u = private_key_read (see tok u refl)
+
+    property_read : {e : Term} {a b : Text} → Item spell.property_item e a b → IsUtf8 a → FoundItem property_of false e a b
+    property_read (spell.a_property k tok e) u = let r = key_item_read k u in let t = see_sign tok (item_utf8 r) in property_field r t (stands_read e t.utf8)
+    property_read (spell.a_shorthand free tok) u = shorthand_field free (see_word tok u)
+    property_read (spell.a_method m h) u = other.method_field m h u
+    property_read (spell.an_accessor m h) u = other.accessor_field m h u
+    property_read (spell.a_spread_property (spell.spread tok s)) u = let t = see_sign tok u in spread_field t (stands_read s t.utf8)
+
+    property_list_read : {es : List Term} {a b : Text} → Listed spell.property_item es a b → IsUtf8 a → FoundList property_of false es a b
+    property_list_read (spell.last e) u = last_found (property_read e u)
+    property_list_read (spell.and e tok rest) u = let r = property_read e u in let t = see_sign tok r.utf8 in and_found r t (property_list_read rest t.utf8)
+
+    property_group_read : {es : List Term} {a b : Text} → Group spell.property_item es a b → IsUtf8 a → FoundGroup property_of es a b
+    property_group_read spell.no_items u = none_found u
+    property_group_read (spell.items h l) u = some_found refl (property_list_read l u)
+    property_group_read (spell.trailing l tok) u = let r = property_list_read l u in comma_found r (see_sign tok r.utf8)
+
     -- links
 
     call_text_read : {es : List Term} {a b : Text} → Arguments es a b → IsUtf8 a → CallRead es a b
@@ -153,6 +185,16 @@ module _ (other : OtherParts) where
     bare_read : {i : Bool} {e : Term} {a b : Text} → BareNew i e a b → IsUtf8 a → BareRead i e a b
     bare_read (spell.new_member tok h s) u = let t = see_word tok u in let r = stands_read s t.utf8 in bare_member_read t h (stands_starts s t.utf8) r.read r.utf8
     bare_read (spell.new_new tok s) u = let t = see_word tok u in bare_bare_read t (bare_starts s t.utf8) (bare_read s t.utf8)
+
+    -- templates
+
+    template_text_read : {sound : Bool} {qs es : List Term} {a b : Text} → Template sound qs es a b → IsUtf8 a → IsReadTemplate sound qs es a b
+    template_text_read (spell.whole_template h tok) u = whole_template_read h (see tok u refl)
+    template_text_read (spell.template_parts h tok e rest) u = let t = see tok u refl in let r = expression_read e t.utf8 in template_parts_read h t r (quasis_read rest r.utf8)
+
+    quasis_read : {sound : Bool} {qs es : List Term} {a b : Text} → TemplateRest sound qs es a b → IsUtf8 a → IsReadQuasis sound qs es a b
+    quasis_read (spell.template_end h tok) u = template_end_read h (see_tail tok u refl)
+    quasis_read (spell.template_more h tok e rest) u = let t = see_tail tok u refl in let r = expression_read e t.utf8 in template_more_read h t r (quasis_read rest r.utf8)
 
     -- arrows
 

@@ -1,30 +1,26 @@
 -- Members, calls and chains that stand in a text are read.
-use Rattle.std.proofs.Common.{◌≡◌, ◌≤◌, ◌<◌, ℕ, zero, suc, Bool, true, false, not, ◌&&◌, ◌||◌, if◌then◌else◌, nat_le, nat_eq, map, List, [], ◌∷◌, ◌++◌, length, Option, Some, None, refl, sym, subst, ◌⊎◌, inl, inr, ◌∙◌, ap, arith, codes}
+use Rattle.std.proofs.Common.{◌≡◌, ◌≤◌, ◌<◌, ℕ, zero, suc, Bool, true, false, not, ◌&&◌, if◌then◌else◌, nat_le, nat_eq, map, List, [], ◌∷◌, length, Option, Some, None, refl, sym, subst, ◌∙◌, ap, arith, codes}
 use Rattle.std.specs.Str.{IsUtf8}
-use Rattle.std.specs.List.{list_all}
-use Rattle.std.proofs.lemmas.Bool.{false≢true, not-true, leb-true, le-leb, lt-leb}
+use Rattle.std.proofs.lemmas.Bool.{false≢true, not-true, leb-true}
 use Rattle.std.proofs.lemmas.Bool.Decides.{nat_tests}
-use Rattle.js_term.specs.Term.{Text, is_text, Term, Terms, absent, list, node, none, one, two, all, depth, depths}
+use Rattle.js_term.specs.Term.{Text, Term, all, depth, depths}
 use Rattle.js_term.specs.declared.kind.Kind.{Kind}
-use Rattle.js_term.specs.Lexeme.{is_reserved, is_one_of}
-use Rattle.js_term.specs.Node.{identifier_of}
-use Rattle.js_syntax.specs.Nodes.{of_part, call_link, static_link, computed_link, private_link, super_of}
+use Rattle.js_term.specs.Lexeme.{is_one_of}
+use Rattle.js_syntax.specs.Nodes.{of_part, call_link, static_link, computed_link, private_link}
 use Rattle.js_syntax.specs.Tokens.{Lexeme, word, private_name, number, big_integer, string, regexp, no_substitution, template_head, template_middle, template_tail, sign}
-use Rattle.js_syntax.specs.Edges.{Edge, full, edge, is_update, member_level, is_private_member}
-use Rattle.js_syntax.proofs.Fronts.{same_text, among}
-use Rattle.js_tokens.specs.Next.{lexeme, after}
+use Rattle.js_syntax.specs.Edges.{full, edge, is_update, member_level}
+use Rattle.js_syntax.proofs.Fronts.{among}
+use Rattle.js_tokens.specs.Next.{lexeme}
 use Rattle.js_reading.specs.declared.goal.Goal.{Goal}
-use Rattle.js_reading.specs.declared.goal.Goal.TheVariants as goal
-use Rattle.js_reading.specs.Reading.{Found, closed, Reading, ◌>>=◌, sees, sees_word, same_line, arrow_here, expect, group, trees, any_cover}
+use Rattle.js_reading.specs.Reading.{Found, closed, Reading, ◌>>=◌, same_line}
 use Rattle.js_reading.specs.Operators.{sign_binds, binds}
-use Rattle.js_reading.specs.Parts.{arguments, expression, item}
-use Rattle.js_reading.specs.Expressions.{at, is_link, operator_text, dotted, computed, called, optional_link, link_by, links, chain, super_member, super_expression, sign_extended, extended, async_call, async_parenthesized, async_by, async_expression, word_prefix, prefix, climb, at_level}
+use Rattle.js_reading.specs.Parts.{arguments}
+use Rattle.js_reading.specs.Expressions.{at, is_link, dotted, computed, called, optional_link, link_by, links, chain}
 use Rattle.js_reading.specs.Read.{read}
-use Rattle.js_reading.proofs.TokensThere.{Seen, sees_by, sees_word_by, expect_read}
-use Rattle.js_reading.proofs.Lists.{is_end, ending_end, ReadsGroup}
-use Rattle.js_reading.proofs.Follows.{tightness, tightness_by, broken, takes_name, holds, Ends, is_full, either_case}
-use Rattle.js_reading.proofs.Climbs.{whole, quiet, quiet_other, is_async, IsRead, Reach, full_low, no_name, sign_joins, joined_read, lower_read, grow}
-use Rattle.js_reading.proofs.Leaves.{word_there, no_arrow, name_prefix}
+use Rattle.js_reading.proofs.TokensThere.{Seen, sees_by, expect_read}
+use Rattle.js_reading.proofs.Lists.{ending_end}
+use Rattle.js_reading.proofs.Follows.{tightness, tightness_by, broken, takes_name, holds, is_full}
+use Rattle.js_reading.proofs.Climbs.{whole, quiet, quiet_other, IsRead, full_low, sign_joins, joined_read}
 use Rattle.js_reading.proofs.Operations.{extends_sign}
 use Rattle.js_reading.proofs.Listings.{IsReadExpression, expression_before, FoundGroup, item_of}
 
@@ -163,8 +159,8 @@ dot_read {i} {n} {o} {e} {p} high object x =
     let r2 = range.2 in
     let ends = x.ends in
     joined_read 21 object (sign_joins tok (omega arith) refl high refl refl refl) (quiet_other o _ (sees_by (codes "(") tok)) (let d = x.deep in omega arith) (omega arith) r1 (omega arith) (object.calls high) (let s = tok.shorter in let s' = x.shorter in omega arith)
-        (is_full ends) (omega arith) (λ h. omega arith) (λ h h'. omega arith) (λ h. omega arith)
-        (λ limit fits h. extends_sign (read limit) i o n p tok refl ∙ ap (λ r. r >>= at (member_level n)) (x.reads limit fits))
+    (is_full ends) (omega arith) (λ h. omega arith) (λ h h'. omega arith) (λ h. omega arith)
+    (λ limit fits h. extends_sign (read limit) i o n p tok refl ∙ ap (λ r. r >>= at (member_level n)) (x.reads limit fits))
 
 pub bracket_read : {i : Bool} {n : ℕ} {o e : Term} {p : Bool} {a b c : Text} → 19 ≤ n → IsRead i (depth o) (whole o n p) a b → LinkRead (codes "[") o e b c → IsRead i (depth e) (closed e (member_level n)) a c
 bracket_read {i} {n} {o} {e} {p} high object x =
@@ -175,16 +171,16 @@ bracket_read {i} {n} {o} {e} {p} high object x =
     let r2 = range.2 in
     let ends = x.ends in
     joined_read 21 object (sign_joins tok (omega arith) refl high refl refl refl) (quiet_other o _ (sees_by (codes "(") tok)) (let d = x.deep in omega arith) (omega arith) r1 (omega arith) (object.calls high) (let s = tok.shorter in let s' = x.shorter in omega arith)
-        (is_full ends) (omega arith) (λ h. omega arith) (λ h h'. omega arith) (λ h. omega arith)
-        (λ limit fits h. extends_sign (read limit) i o n p tok refl ∙ ap (λ r. r >>= at (member_level n)) (x.reads limit fits))
+    (is_full ends) (omega arith) (λ h. omega arith) (λ h h'. omega arith) (λ h. omega arith)
+    (λ limit fits h. extends_sign (read limit) i o n p tok refl ∙ ap (λ r. r >>= at (member_level n)) (x.reads limit fits))
 
 -- a call of anything but the name `async`
 pub plain_call_read : {i : Bool} {n : ℕ} {f : Term} {es : List Term} {p : Bool} {a b c : Text} → 19 ≤ n → quiet f b ≡ true → IsRead i (depth f) (whole f n p) a b → ArgumentsRead es b c → IsRead i (depth (call_link false f (all es))) (closed (call_link false f (all es)) 19) a c
 plain_call_read {i} {n} {f} {es} {p} high q callee x =
     let tok = x.tok in
     joined_read 21 callee (sign_joins tok (omega arith) refl high refl refl refl) q (omega arith) (omega arith) (omega arith) (omega arith) (callee.calls high) (let s = tok.shorter in let s' = x.shorter in omega arith)
-        (is_full refl) (omega arith) (λ h. omega arith) (λ h h'. absurd (omega arith)) (λ h. omega arith)
-        (λ limit fits h. extends_sign (read limit) i f n p tok refl ∙ ap (λ r. r >>= at 19) (called_there false f limit x (omega arith)))
+    (is_full refl) (omega arith) (λ h. omega arith) (λ h h'. absurd (omega arith)) (λ h. omega arith)
+    (λ limit fits h. extends_sign (read limit) i f n p tok refl ∙ ap (λ r. r >>= at 19) (called_there false f limit x (omega arith)))
 
 -- ---- chains (13.3.9)
 
@@ -299,5 +295,5 @@ chain_read {i} {e} {a} {b} r =
     let high = r.high in
     let base = r.read_base in
     joined_read 17 base (sign_joins tok (omega arith) refl high refl refl refl) (quiet_other r.base r.text (sees_by (codes "(") tok)) (let d = r.deep in omega arith) (omega arith) (omega arith) (omega arith) (let c = base.calls high in omega arith) (let s = tok.shorter in let s' = r.shorter in omega arith)
-        (is_full refl) (omega arith) (λ h. omega arith) (λ h h'. absurd (omega arith)) (λ h. absurd (omega arith))
-        (λ limit fits h. extends_sign (read limit) i r.base r.level r.barred tok refl ∙ chain_there limit (r.run limit (omega arith)) (no_link i b h))
+    (is_full refl) (omega arith) (λ h. omega arith) (λ h h'. absurd (omega arith)) (λ h. absurd (omega arith))
+    (λ limit fits h. extends_sign (read limit) i r.base r.level r.barred tok refl ∙ chain_there limit (r.run limit (omega arith)) (no_link i b h))

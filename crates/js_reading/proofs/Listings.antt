@@ -1,23 +1,22 @@
 -- Expressions and lists of expressions are read.
-use Rattle.std.proofs.Common.{◌≡◌, ◌≤◌, ◌<◌, ℕ, zero, suc, Bool, true, false, not, ◌&&◌, ◌||◌, if◌then◌else◌, map, List, [], ◌∷◌, ◌++◌, length, Option, Some, None, refl, sym, subst, inl, inr, ◌∙◌, ap, arith, codes}
+use Rattle.std.proofs.Common.{◌≡◌, ◌≤◌, ◌<◌, ℕ, Bool, true, false, List, [], ◌∷◌, length, Some, refl, sym, inl, ◌∙◌, ap, arith, codes}
 use Rattle.std.specs.Str.{IsUtf8}
 use Rattle.std.proofs.lemmas.Bool.{false≢true}
-use Rattle.js_term.specs.Term.{Text, Term, absent, list, node, all, depth, depths}
+use Rattle.js_term.specs.Term.{Text, Term, absent, all, depth, depths}
 use Rattle.js_term.specs.declared.kind.Kind.{Kind}
 use Rattle.js_term.specs.Node.{sequence_of}
 use Rattle.js_syntax.specs.Nodes.{of_part}
-use Rattle.js_syntax.specs.Tokens.{Lexeme, sign}
-use Rattle.js_syntax.specs.Edges.{Edge, edge, edge_last, is_simple_target, last_absent}
+use Rattle.js_syntax.specs.Tokens.{sign}
+use Rattle.js_syntax.specs.Edges.{edge, edge_last, is_simple_target, last_absent}
 use Rattle.js_syntax.specs.Spelling.{is_several}
-use Rattle.js_tokens.specs.Next.{lexeme, after}
-use Rattle.js_reading.specs.declared.goal.Goal.{Goal}
+use Rattle.js_tokens.specs.Next.{lexeme}
 use Rattle.js_reading.specs.declared.goal.Goal.TheVariants as goal
-use Rattle.js_reading.specs.Reading.{Found, closed, Reading, ◌>>=◌, sees, separated, group, joined, tree_in, trees, any_cover}
-use Rattle.js_reading.specs.Parts.{settled, uncovered, spread_of, part, expression, spread, item, argument, element}
+use Rattle.js_reading.specs.Reading.{Found, closed, Reading, sees, joined, trees, any_cover}
+use Rattle.js_reading.specs.Parts.{part, expression, spread, item, argument, element}
 use Rattle.js_reading.specs.Read.{read}
 use Rattle.js_reading.proofs.TokensThere.{Seen, sees_by}
 use Rattle.js_reading.proofs.Opens.{begins, no_sign_there}
-use Rattle.js_reading.proofs.Lists.{is_closing, is_end, begins_no_closer, comma_seen, ReadsItem, some_item, hole_item, ReadsAll, last_all, and_all, ReadsGroup, group_none, group_some, group_comma}
+use Rattle.js_reading.proofs.Lists.{is_closing, is_end, begins_no_closer, ReadsItem, some_item, hole_item, ReadsAll, last_all, and_all, ReadsGroup, group_none, group_some, group_comma}
 use Rattle.js_reading.proofs.Follows.{holds, end_holds}
 use Rattle.js_reading.proofs.Climbs.{whole, IsRead, place_found, right_read}
 

@@ -1,32 +1,27 @@
 -- Operators that stand in a text are read.
-use Rattle.std.proofs.Common.{◌≡◌, ◌≤◌, ◌<◌, ℕ, zero, suc, Bool, true, false, not, ◌&&◌, ◌||◌, if◌then◌else◌, nat_le, nat_eq, map, List, [], ◌∷◌, length, Option, Some, None, refl, sym, subst, ◌∙◌, ap, arith, codes}
+use Rattle.std.proofs.Common.{◌≡◌, ◌≤◌, ◌<◌, ℕ, suc, Bool, true, false, not, ◌&&◌, ◌||◌, if◌then◌else◌, nat_le, nat_eq, [], ◌∷◌, length, Some, refl, sym, subst, ◌∙◌, ap, arith, codes}
 use Rattle.std.specs.Str.{IsUtf8}
 use Rattle.std.specs.List.{list_all}
-use Rattle.std.proofs.lemmas.Bool.{false≢true, not-true, eqb-true, leb-true, or_left, or_right}
-use Rattle.js_term.specs.Term.{Text, is_text, Term, absent, node, one, two, depth}
+use Rattle.std.proofs.lemmas.Bool.{false≢true, not-true, eqb-true, leb-true}
+use Rattle.js_term.specs.Term.{Text, is_text, Term, node, two, depth}
 use Rattle.js_term.specs.declared.kind.Kind.{Kind}
 use Rattle.js_term.specs.Lexeme.{is_reserved, is_one_of}
-use Rattle.js_term.specs.Node.{await_of}
-use Rattle.js_syntax.specs.Nodes.{marked, of_parts, three, private_of, update_of}
-use Rattle.js_syntax.specs.Texts.{assignment_operators, logical_operators, unary_operators, update_operators}
-use Rattle.js_syntax.specs.Tokens.{Lexeme, word, private_name, sign, signs, Lexed, is_punctuator, Token, Sign}
-use Rattle.js_syntax.specs.Edges.{Edge, full, loose, edge, is_unary, is_update, is_word_operator, is_coalesce_left, is_simple_target, member_level, operator_levels, binary_level, level_among}
+use Rattle.js_syntax.specs.Nodes.{marked, three}
+use Rattle.js_syntax.specs.Texts.{assignment_operators, logical_operators}
+use Rattle.js_syntax.specs.Tokens.{word, sign, signs, Lexed, is_punctuator, Sign}
+use Rattle.js_syntax.specs.Edges.{edge, is_update, is_word_operator, is_coalesce_left, member_level, operator_levels, binary_level}
 use Rattle.js_syntax.specs.Spelling as spell
-use Rattle.js_syntax.proofs.Fronts.{same_text, among}
-use Rattle.js_tokens.specs.Next.{lexeme, after}
+use Rattle.js_syntax.proofs.Fronts.{among}
+use Rattle.js_tokens.specs.Next.{lexeme}
 use Rattle.js_reading.specs.declared.goal.Goal.{Goal}
-use Rattle.js_reading.specs.declared.goal.Goal.TheVariants as goal
-use Rattle.js_reading.specs.Reading.{Found, closed, Reading, ◌>>=◌, sees, sees_word, same_line, at_end, arrow_here, expect, expect_word}
-use Rattle.js_reading.specs.Operators.{sign_levels, sign_binds, word_binds, binds, sign_gives, gives, sign_needs, needs, suits}
-use Rattle.js_reading.specs.Parts.{part}
-use Rattle.js_reading.specs.Expressions.{at, ends_operand, operated, binary_by, updated, operator_by, sign_extended, extended_by, extended, conditional, unary, await_expression, yield_expression, update_before, private_in, word_prefix, sign_prefix, prefix_by, prefix, is_word_unary}
+use Rattle.js_reading.specs.Reading.{Found, closed, Reading, sees, sees_word, same_line, arrow_here}
+use Rattle.js_reading.specs.Operators.{sign_binds, word_binds, sign_gives, sign_needs}
+use Rattle.js_reading.specs.Expressions.{operated, binary_by, sign_extended, extended, conditional}
 use Rattle.js_reading.specs.Read.{read}
-use Rattle.js_reading.proofs.TokensThere.{Seen, see, sees_by, sees_word_by, expect_read, expect_word_read}
-use Rattle.js_reading.proofs.Opens.{begins, no_sign_there}
-use Rattle.js_reading.proofs.Lists.{is_end, ending_end}
-use Rattle.js_reading.proofs.Follows.{tightness, takes_name, holds, Ends, is_full, is_updated, is_loose, end_holds, by_level, either_case, sign_takes}
-use Rattle.js_reading.proofs.Climbs.{whole, quiet, quiet_other, IsRead, place_read, right_read, Joins, sign_joins, joined_read, lower_read, ends_right}
-use Rattle.js_reading.proofs.Leaves.{word_there}
+use Rattle.js_reading.proofs.TokensThere.{Seen, see, sees_by, expect_read}
+use Rattle.js_reading.proofs.Lists.{ending_end}
+use Rattle.js_reading.proofs.Follows.{tightness, takes_name, holds, end_holds, by_level, either_case}
+use Rattle.js_reading.proofs.Climbs.{whole, quiet_other, IsRead, place_read, right_read, Joins, sign_joins, joined_read, ends_right}
 
 -- ---- operators
 
@@ -68,25 +63,25 @@ operated_there limit kind op l place k keeps right high below low some fits h = 
 pub operated_read : {i : Bool} {m n k t : ℕ} {l r : Term} {p q : Bool} {a b c d : Text} (kind : Kind) (op : Text) (place keeps : ℕ) (left : IsRead i (depth l) (whole l m p) a b) → Joins i m k t b → sees (codes "(") b ≡ false → t ≤ left.keeps → length c < length b → IsRead i (depth r) (whole r n q) c d → edge (marked kind op (two l r)) ≡ edge r → 3 < m → k ≤ m → place ≤ n → keeps < place → keeps ≤ 18 → 3 < k → k ≤ 15 → k ≤ place → k ≤ suc keeps → (k ≤ 14 → k ≤ keeps) → ((limit : ℕ) → extended (read limit) i (whole l m p) b ≡ operated (read limit) i kind op l place k c) → IsRead i (depth (marked kind op (two l r))) (closed (marked kind op (two l r)) k) a d
 operated_read {i} {m} {n} {k} {t} {l} {r} {p} {q} {a} {b} {c} {d} kind op place keeps left j no_paren tight shorter right same high low fit below top some_k top_k place_k wide mid extends =
     joined_read keeps left j (quiet_other l b no_paren) (omega arith) high low (omega arith) tight (let s = right.shorter in omega arith)
-        (rw same (ends_right right.ends (omega arith) (λ h. absurd (omega arith)))) (omega arith) (λ h. wide) (λ h h'. mid h') (λ h. absurd (omega arith))
-        (λ limit fits h. extends limit ∙ operated_there limit kind op l place k keeps right fit below top (omega arith) (omega arith) (subst (λ x. holds i x keeps d ≡ true) same h))
+    (rw same (ends_right right.ends (omega arith) (λ h. absurd (omega arith)))) (omega arith) (λ h. wide) (λ h h'. mid h') (λ h. absurd (omega arith))
+    (λ limit fits h. extends limit ∙ operated_there limit kind op l place k keeps right fit below top (omega arith) (omega arith) (subst (λ x. holds i x keeps d ≡ true) same h))
 
 -- ---- exponentiation and the logical operators
 
 pub exponentiation_read : {i : Bool} {m n : ℕ} {l r : Term} {p q : Bool} {a b c d : Text} → 17 ≤ m → 15 ≤ n → IsRead i (depth l) (whole l m p) a b → Seen (sign (codes "**")) b c → IsRead i (depth r) (whole r n q) c d → IsRead i (depth (marked Kind.BinaryExpression (codes "**") (two l r))) (closed (marked Kind.BinaryExpression (codes "**") (two l r)) 15) a d
 exponentiation_read {i} {m} {n} {l} {p = p} h h' left tok right =
     operated_read Kind.BinaryExpression (codes "**") 15 14 left (sign_joins tok (omega arith) refl h refl refl refl) (sees_by (codes "(") tok) (let w = left.wide (omega arith) in omega arith) tok.shorter right refl
-        (omega arith) (omega arith) h' (omega arith) (omega arith) (omega arith) (omega arith) (omega arith) (omega arith) (λ x. absurd (omega arith)) (λ limit. extends_sign (read limit) i l m p tok refl)
+    (omega arith) (omega arith) h' (omega arith) (omega arith) (omega arith) (omega arith) (omega arith) (omega arith) (λ x. absurd (omega arith)) (λ limit. extends_sign (read limit) i l m p tok refl)
 
 pub conjunction_read : {i : Bool} {m n : ℕ} {l r : Term} {p q : Bool} {a b c d : Text} → 6 ≤ m → 7 ≤ n → IsRead i (depth l) (whole l m p) a b → Seen (sign (codes "&&")) b c → IsRead i (depth r) (whole r n q) c d → IsRead i (depth (marked Kind.LogicalExpression (codes "&&") (two l r))) (closed (marked Kind.LogicalExpression (codes "&&") (two l r)) 6) a d
 conjunction_read {i} {m} {n} {l} {p = p} h h' left tok right =
     operated_read Kind.LogicalExpression (codes "&&") 7 6 left (sign_joins tok (omega arith) refl h refl refl refl) (sees_by (codes "(") tok) (left.tight 6 (omega arith) (omega arith) h) tok.shorter right refl
-        (omega arith) (omega arith) h' (omega arith) (omega arith) (omega arith) (omega arith) (omega arith) (omega arith) (λ x. omega arith) (λ limit. extends_sign (read limit) i l m p tok refl)
+    (omega arith) (omega arith) h' (omega arith) (omega arith) (omega arith) (omega arith) (omega arith) (omega arith) (λ x. omega arith) (λ limit. extends_sign (read limit) i l m p tok refl)
 
 pub disjunction_read : {i : Bool} {m n : ℕ} {l r : Term} {p q : Bool} {a b c d : Text} → 5 ≤ m → 6 ≤ n → IsRead i (depth l) (whole l m p) a b → Seen (sign (codes "||")) b c → IsRead i (depth r) (whole r n q) c d → IsRead i (depth (marked Kind.LogicalExpression (codes "||") (two l r))) (closed (marked Kind.LogicalExpression (codes "||") (two l r)) 5) a d
 disjunction_read {i} {m} {n} {l} {p = p} h h' left tok right =
     operated_read Kind.LogicalExpression (codes "||") 6 5 left (sign_joins tok (omega arith) refl h refl refl refl) (sees_by (codes "(") tok) (left.tight 5 (omega arith) (omega arith) h) tok.shorter right refl
-        (omega arith) (omega arith) h' (omega arith) (omega arith) (omega arith) (omega arith) (omega arith) (omega arith) (λ x. omega arith) (λ limit. extends_sign (read limit) i l m p tok refl)
+    (omega arith) (omega arith) h' (omega arith) (omega arith) (omega arith) (omega arith) (omega arith) (omega arith) (λ x. omega arith) (λ limit. extends_sign (read limit) i l m p tok refl)
 
 coalesce_high : (m : ℕ) → is_coalesce_left m ≡ true → 4 ≤ m
 coalesce_high m h = either_case (nat_eq m 4) (nat_le 7 m) h (λ e. let x = eqb-true m 4 e in omega arith) (λ e. let x = leb-true 7 m e in omega arith)
@@ -95,7 +90,7 @@ pub coalescing_read : {i : Bool} {m n : ℕ} {l r : Term} {p q : Bool} {a b c d 
 coalescing_read {i} {m} {n} {l} {p = p} is h' left tok right =
     let h = coalesce_high m is in
     operated_read Kind.LogicalExpression (codes "??") 7 4 left (sign_joins tok (omega arith) refl h refl is refl) (sees_by (codes "(") tok) (left.tight 4 (omega arith) (omega arith) h) tok.shorter right refl
-        (omega arith) (omega arith) h' (omega arith) (omega arith) (omega arith) (omega arith) (omega arith) (omega arith) (λ x. omega arith) (λ limit. extends_sign (read limit) i l m p tok refl)
+    (omega arith) (omega arith) h' (omega arith) (omega arith) (omega arith) (omega arith) (omega arith) (omega arith) (λ x. omega arith) (λ limit. extends_sign (read limit) i l m p tok refl)
 
 -- ---- the operators of each level
 
@@ -165,10 +160,10 @@ sign_binary_read {i} {k} {m} {n} {op} {l} {p = p} {b = b} {c = c} is h h' left t
     let needs_is = x.needs_is in
     let no_paren = x.no_paren in
     operated_read Kind.BinaryExpression op (suc k) k left
-        (sign_joins tok (rw binds_is (omega arith)) (x.gives_is m) (rw needs_is h) x.no_update (rw no_coalesce refl) x.no_arrow)
-        (sees_by (codes "(") tok ∙ no_paren) (rw binds_is (left.tight k top (omega arith) h)) tok.shorter right refl
-        (omega arith) h h' (omega arith) (omega arith) (omega arith) (omega arith) (omega arith) (omega arith) (λ x. omega arith)
-        (λ limit. extends_sign (read limit) i l m p tok x.no_assign ∙ binary_extended (read limit) i l m k p op c x is)
+    (sign_joins tok (rw binds_is (omega arith)) (x.gives_is m) (rw needs_is h) x.no_update (rw no_coalesce refl) x.no_arrow)
+    (sees_by (codes "(") tok ∙ no_paren) (rw binds_is (left.tight k top (omega arith) h)) tok.shorter right refl
+    (omega arith) h h' (omega arith) (omega arith) (omega arith) (omega arith) (omega arith) (omega arith) (λ x. omega arith)
+    (λ limit. extends_sign (read limit) i l m p tok x.no_assign ∙ binary_extended (read limit) i l m k p op c x is)
 
 -- ---- the operators that are words
 
@@ -196,8 +191,8 @@ word_joins {i} {m} op {b} tok other free eleven h = record {
 word_binary_read : {i : Bool} {m n : ℕ} (op : Text) {l r : Term} {p q : Bool} {a b c d : Text} → is_text op (codes "function") ≡ false → is_reserved op ≡ true → word_binds i op ≡ 11 → binary_level op ≡ Some 11 → 11 ≤ m → 12 ≤ n → IsRead i (depth l) (whole l m p) a b → Seen (word op) b c → IsRead i (depth r) (whole r n q) c d → IsRead i (depth (marked Kind.BinaryExpression op (two l r))) (closed (marked Kind.BinaryExpression op (two l r)) 11) a d
 word_binary_read {i} {m} {n} op {l} {p = p} {c = c} other free eleven is h h' left tok right =
     operated_read Kind.BinaryExpression op 12 11 left (word_joins op tok other free eleven h) (sees_by (codes "(") tok) (left.tight 11 (omega arith) (omega arith) h) tok.shorter right refl
-        (omega arith) h h' (omega arith) (omega arith) (omega arith) (omega arith) (omega arith) (omega arith) (λ x. omega arith)
-        (λ limit. extends_word (read limit) i l m p tok ∙ ap (λ o. binary_by (read limit) i op l o c) is)
+    (omega arith) h h' (omega arith) (omega arith) (omega arith) (omega arith) (omega arith) (omega arith) (λ x. omega arith)
+    (λ limit. extends_word (read limit) i l m p tok ∙ ap (λ o. binary_by (read limit) i op l o c) is)
 
 binary_word : {i : Bool} {k m n : ℕ} (op : Text) {l r : Term} {p q : Bool} {a b c d : Text} → binary_level op ≡ Some k → is_one_of op (codes "in" ∷ codes "instanceof" ∷ []) ≡ true → not (is_text op (codes "in")) || i ≡ true → k ≤ m → suc k ≤ n → IsRead i (depth l) (whole l m p) a b → Seen (word op) b c → IsRead i (depth r) (whole r n q) c d → IsRead i (depth (marked Kind.BinaryExpression op (two l r))) (closed (marked Kind.BinaryExpression op (two l r)) k) a d
 binary_word {i} {k} {m} {n} op {l} {r} {p} {q} {a} {b} {c} {d} is among_words allowed h h' left tok right =
@@ -206,9 +201,9 @@ binary_word {i} {k} {m} {n} op {l} {r} {p} {q} {a} {b} {c} {d} is among_words al
     let binds_is = x.binds_is in
     let same : k ≡ 11 = sym binds_is ∙ eleven in
     rw same (word_binary_read op
-        (not-true _ (among (λ t. not (is_text t (codes "function"))) (codes "in" ∷ codes "instanceof" ∷ []) op refl among_words))
-        (among is_reserved (codes "in" ∷ codes "instanceof" ∷ []) op refl among_words)
-        (go (is_text op (codes "in")) i (is_text op (codes "instanceof")) among_words allowed) (is ∙ ap Some same) (omega arith) (omega arith) left tok right)
+    (not-true _ (among (λ t. not (is_text t (codes "function"))) (codes "in" ∷ codes "instanceof" ∷ []) op refl among_words))
+    (among is_reserved (codes "in" ∷ codes "instanceof" ∷ []) op refl among_words)
+    (go (is_text op (codes "in")) i (is_text op (codes "instanceof")) among_words allowed) (is ∙ ap Some same) (omega arith) (omega arith) left tok right)
   where
     go : (w i v : Bool) → (w || (v || false)) ≡ true → (not w || i) ≡ true → ◌≡◌ {A = ℕ} (if w then (if i then 11 else 0) else if v then 11 else 0) 11
     go true true v h h' = refl
@@ -235,5 +230,5 @@ conditional_read {i} {k} {t = t} {p = p} high left tok x tok' y =
     let s3 = tok'.shorter in
     let s4 = y.shorter in
     joined_read 1 left (sign_joins tok (omega arith) refl high refl refl refl) (quiet_other t _ (sees_by (codes "(") tok)) (omega arith) (omega arith) (omega arith) (omega arith) (left.tight 3 (omega arith) (omega arith) (omega arith)) (omega arith)
-        (ends_right y.ends (omega arith) (λ h. omega arith)) (omega arith) (λ h. absurd (omega arith)) (λ h. absurd (omega arith)) (λ h. absurd (omega arith))
-        (λ limit fits h. extends_sign (read limit) i t k p tok refl ∙ conditional_there limit x tok' y (omega arith) (omega arith) h)
+    (ends_right y.ends (omega arith) (λ h. omega arith)) (omega arith) (λ h. absurd (omega arith)) (λ h. absurd (omega arith)) (λ h. absurd (omega arith))
+    (λ limit fits h. extends_sign (read limit) i t k p tok refl ∙ conditional_there limit x tok' y (omega arith) (omega arith) h)

@@ -1,28 +1,26 @@
 -- Expressions that begin with an operator, and updates, are read.
-use Rattle.std.proofs.Common.{◌≡◌, ◌≤◌, ◌<◌, ℕ, zero, suc, Bool, true, false, not, ◌&&◌, ◌||◌, if◌then◌else◌, nat_le, nat_eq, map, List, [], ◌∷◌, length, Option, Some, None, refl, sym, subst, ◌∙◌, ap, arith, codes}
-use Rattle.std.proofs.lemmas.Bool.{false≢true, not-true, eqb-true, le-leb}
-use Rattle.js_term.specs.Term.{Text, is_text, Term, absent, node, one, two, depth}
+use Rattle.std.proofs.Common.{◌≡◌, ◌≤◌, ℕ, Bool, true, false, not, ◌||◌, if◌then◌else◌, nat_eq, [], ◌∷◌, Some, refl, sym, subst, ◌∙◌, ap, arith, codes}
+use Rattle.std.proofs.lemmas.Bool.{false≢true, not-true, eqb-true}
+use Rattle.js_term.specs.Term.{Text, is_text, Term, absent, one, depth}
 use Rattle.js_term.specs.declared.kind.Kind.{Kind}
-use Rattle.js_term.specs.Lexeme.{is_reserved, is_one_of}
+use Rattle.js_term.specs.Lexeme.{is_one_of}
 use Rattle.js_term.specs.Node.{await_of}
 use Rattle.js_syntax.specs.Nodes.{marked, of_parts, private_of, update_of}
 use Rattle.js_syntax.specs.Texts.{assignment_operators, unary_operators, update_operators}
-use Rattle.js_syntax.specs.Tokens.{Lexeme, word, private_name, sign, signs}
-use Rattle.js_syntax.specs.Edges.{Edge, full, loose, edge, is_unary, is_update, is_word_operator, is_simple_target, member_level}
+use Rattle.js_syntax.specs.Tokens.{word, private_name, sign}
+use Rattle.js_syntax.specs.Edges.{loose, edge, is_unary, is_update, is_word_operator, is_simple_target, member_level}
 use Rattle.js_syntax.proofs.Fronts.{same_text, among}
 use Rattle.js_tokens.specs.Next.{lexeme, after}
 use Rattle.js_reading.specs.declared.goal.Goal.{Goal}
-use Rattle.js_reading.specs.declared.goal.Goal.TheVariants as goal
-use Rattle.js_reading.specs.Reading.{Found, closed, Reading, ◌>>=◌, sees, sees_word, same_line, at_end, arrow_here, expect_word}
-use Rattle.js_reading.specs.Operators.{sign_binds, binds, sign_gives, sign_needs, suits}
-use Rattle.js_reading.specs.Parts.{part}
-use Rattle.js_reading.specs.Expressions.{ends_operand, updated, operator_by, sign_extended, extended, unary, await_expression, yield_expression, update_before, private_in, word_prefix, sign_prefix, prefix_by, prefix}
+use Rattle.js_reading.specs.Reading.{Found, closed, Reading, sees, same_line, at_end}
+use Rattle.js_reading.specs.Operators.{sign_binds, sign_gives, sign_needs, suits}
+use Rattle.js_reading.specs.Expressions.{ends_operand, sign_extended, unary, await_expression, yield_expression, update_before, private_in, word_prefix, sign_prefix, prefix}
 use Rattle.js_reading.specs.Read.{read}
-use Rattle.js_reading.proofs.TokensThere.{Seen, sees_by, sees_word_by, expect_word_read}
+use Rattle.js_reading.proofs.TokensThere.{Seen, sees_by, expect_word_read}
 use Rattle.js_reading.proofs.TokensEnd.{seen_not_end, not_at_end}
-use Rattle.js_reading.proofs.Opens.{begins, begins_by, no_sign_there}
-use Rattle.js_reading.proofs.Follows.{tightness, takes_name, holds, Ends, is_full, is_updated, is_loose, either_case, sign_takes}
-use Rattle.js_reading.proofs.Climbs.{whole, quiet, quiet_other, IsRead, place_read, right_read, Joins, joined_read, lower_read, ends_right, ends_low}
+use Rattle.js_reading.proofs.Opens.{begins, no_sign_there}
+use Rattle.js_reading.proofs.Follows.{tightness, holds, is_updated, is_loose, either_case, sign_takes}
+use Rattle.js_reading.proofs.Climbs.{whole, quiet_other, IsRead, place_read, right_read, Joins, joined_read, lower_read, ends_right, ends_low}
 use Rattle.js_reading.proofs.Leaves.{word_there, literal_there}
 use Rattle.js_reading.proofs.Operations.{SeenOperator, by_word, by_sign, extends_sign, operator_shorter}
 
@@ -40,11 +38,12 @@ unary_word sub i least op b h = either_case (is_text op (codes "delete")) _ h (n
 
 unary_sign : (sub : Goal → Text → Reading Found) (i : Bool) (op a : Text) → is_unary op ≡ true → sign_prefix sub i op a ≡ unary sub i op (after a)
 unary_sign sub i op a is = rw (
-    not-true (is_text op (codes "(")) (among (λ t. not (is_text t (codes "("))) unary_operators op refl is),
-    not-true (is_text op (codes "[")) (among (λ t. not (is_text t (codes "["))) unary_operators op refl is),
-    not-true (is_text op (codes "{")) (among (λ t. not (is_text t (codes "{"))) unary_operators op refl is),
-    not-true (is_update op) (among (λ t. not (is_update t)) unary_operators op refl is),
-    is)
+  not-true (is_text op (codes "(")) (among (λ t. not (is_text t (codes "("))) unary_operators op refl is),
+  not-true (is_text op (codes "[")) (among (λ t. not (is_text t (codes "["))) unary_operators op refl is),
+  not-true (is_text op (codes "{")) (among (λ t. not (is_text t (codes "{"))) unary_operators op refl is),
+  not-true (is_update op) (among (λ t. not (is_update t)) unary_operators op refl is),
+  is,
+)
 
 unary_prefix : (sub : Goal → Text → Reading Found) (i : Bool) (least : ℕ) {op a b : Text} → is_unary op ≡ true → SeenOperator op a b → prefix sub i least a ≡ unary sub i op b
 unary_prefix sub i least {op} {a} {b} is (by_word w tok) = word_there sub i least tok ∙ unary_word sub i least op b
@@ -56,7 +55,7 @@ unary_read {i} {op = op} is high tok x =
     let s1 = operator_shorter tok in
     let s2 = x.shorter in
     lower_read 15 (omega arith) (omega arith) (omega arith) (ends_right x.ends (omega arith) (λ h. absurd (omega arith))) (omega arith) (λ h. omega arith) (λ h h'. absurd (omega arith)) (λ h. absurd (omega arith))
-        (λ limit least low fits h. unary_prefix (read limit) i least is tok ∙ unary_there limit op high x (omega arith) h)
+    (λ limit least low fits h. unary_prefix (read limit) i least is tok ∙ unary_there limit op high x (omega arith) h)
 
 await_there : {i : Bool} {d n : ℕ} {e : Term} {q : Bool} {b c : Text} (limit : ℕ) → 16 ≤ n → IsRead i d (whole e n q) b c → d ≤ limit → holds i (edge e) 15 c ≡ true → await_expression (read limit) i b ≡ Some (closed (await_of e) 16, c)
 unfolding await_expression
@@ -67,16 +66,17 @@ await_read {i} high tok x =
     let s1 = tok.shorter in
     let s2 = x.shorter in
     lower_read 15 (omega arith) (omega arith) (omega arith) (ends_right x.ends (omega arith) (λ h. absurd (omega arith))) (omega arith) (λ h. omega arith) (λ h h'. absurd (omega arith)) (λ h. absurd (omega arith))
-        (λ limit least low fits h. word_there (read limit) i least tok ∙ await_there limit high x (omega arith) h)
+    (λ limit least low fits h. word_there (read limit) i least tok ∙ await_there limit high x (omega arith) h)
 
 -- ---- updates (13.4)
 
 update_sign : (sub : Goal → Text → Reading Found) (i : Bool) (op a : Text) → is_update op ≡ true → sign_prefix sub i op a ≡ update_before sub i op (after a)
 update_sign sub i op a is = rw (
-    not-true (is_text op (codes "(")) (among (λ t. not (is_text t (codes "("))) update_operators op refl is),
-    not-true (is_text op (codes "[")) (among (λ t. not (is_text t (codes "["))) update_operators op refl is),
-    not-true (is_text op (codes "{")) (among (λ t. not (is_text t (codes "{"))) update_operators op refl is),
-    is)
+  not-true (is_text op (codes "(")) (among (λ t. not (is_text t (codes "("))) update_operators op refl is),
+  not-true (is_text op (codes "[")) (among (λ t. not (is_text t (codes "["))) update_operators op refl is),
+  not-true (is_text op (codes "{")) (among (λ t. not (is_text t (codes "{"))) update_operators op refl is),
+  is,
+)
 
 before_there : {i : Bool} {d n : ℕ} {t : Term} {q : Bool} {b c : Text} (limit : ℕ) (op : Text) → is_simple_target t ≡ true → 19 ≤ n → IsRead i d (whole t n q) b c → d ≤ limit → holds i (edge t) 18 c ≡ true → update_before (read limit) i op b ≡ Some (closed (update_of op true t) 17, c)
 unfolding update_before
@@ -87,15 +87,17 @@ update_before_read {i} {op = op} {a = a} is simple high tok x =
     let s1 = tok.shorter in
     let s2 = x.shorter in
     lower_read 18 (omega arith) (omega arith) (omega arith) (ends_right x.ends (omega arith) (λ h. absurd (omega arith))) (omega arith) (λ h. omega arith) (λ h h'. absurd (omega arith)) (λ h. absurd (omega arith))
-        (λ limit least low fits h. literal_there (read limit) i least tok ∙ update_sign (read limit) i op a is ∙ ap (update_before (read limit) i op) tok.after_is ∙ before_there limit op simple high x (omega arith) h)
+    (λ limit least low fits h. literal_there (read limit) i least tok ∙ update_sign (read limit) i op a is ∙ ap (update_before (read limit) i op) tok.after_is ∙ before_there limit op simple high x (omega arith) h)
 
 behind_extended : (sub : Goal → Text → Reading Found) (i : Bool) (t : Term) (n : ℕ) (q : Bool) (op c : Text) → is_update op ≡ true → is_simple_target t ≡ true → sign_extended sub i (whole t n q) op c ≡ Some (closed (update_of op false t) 17, c)
 behind_extended sub i t n q op c is simple = rw (
-    not-true (is_text op (codes ".")) (among (λ t. not (is_text t (codes "."))) update_operators op refl is),
-    not-true (is_text op (codes "[")) (among (λ t. not (is_text t (codes "["))) update_operators op refl is),
-    not-true (is_text op (codes "(")) (among (λ t. not (is_text t (codes "("))) update_operators op refl is),
-    not-true (is_text op (codes "?.")) (among (λ t. not (is_text t (codes "?."))) update_operators op refl is),
-    is, simple)
+  not-true (is_text op (codes ".")) (among (λ t. not (is_text t (codes "."))) update_operators op refl is),
+  not-true (is_text op (codes "[")) (among (λ t. not (is_text t (codes "["))) update_operators op refl is),
+  not-true (is_text op (codes "(")) (among (λ t. not (is_text t (codes "("))) update_operators op refl is),
+  not-true (is_text op (codes "?.")) (among (λ t. not (is_text t (codes "?."))) update_operators op refl is),
+  is,
+  simple,
+)
 
 update_tight : (i : Bool) {op b c : Text} → is_update op ≡ true → Seen (sign op) b c → same_line b ≡ true → tightness i b ≡ sign_binds op
 unfolding tightness
@@ -115,14 +117,15 @@ update_joins {i} {n} {op} {b} is high line tok =
   where
     update_gives : (n : ℕ) (op : Text) → is_update op ≡ true → sign_binds op ≡ 17 → sign_gives n op ≡ 17
     update_gives n op is e = ap (λ (t : Bool). if t then member_level n else sign_binds op) (not-true (is_one_of op (codes "[" ∷ codes "." ∷ [])) (among (λ t. not (is_one_of t (codes "[" ∷ codes "." ∷ []))) update_operators op refl is)) ∙ e
+
     update_suits : (n : ℕ) (op : Text) (line : Bool) → is_update op ≡ true → line ≡ true → suits n (Some (sign op)) line ≡ true
     update_suits n op line is e = rw (e, is, not-true (is_text op (codes "??")) (among (λ t. not (is_text t (codes "??"))) update_operators op refl is)) refl
 
 pub update_behind_read : {i : Bool} {n : ℕ} {op : Text} {t : Term} {q : Bool} {a b c : Text} → is_update op ≡ true → is_simple_target t ≡ true → 19 ≤ n → IsRead i (depth t) (whole t n q) a b → same_line b ≡ true → Seen (sign op) b c → IsRead i (depth (update_of op false t)) (closed (update_of op false t) 17) a c
 update_behind_read {i} {n} {op} {t} {q} {a} {b} {c} is simple high left line tok =
     joined_read 18 left (update_joins is high line tok) (quiet_other t b (sees_by (codes "(") tok ∙ not-true (is_text op (codes "(")) (among (λ t. not (is_text t (codes "("))) update_operators op refl is))) (omega arith) (omega arith) (omega arith) (omega arith) (let w = left.calls high in omega arith) tok.shorter
-        (is_updated refl (omega arith)) (omega arith) (λ h. omega arith) (λ h h'. absurd (omega arith)) (λ h. absurd (omega arith))
-        (λ limit fits h. extends_sign (read limit) i t n q tok (not-true (is_one_of op assignment_operators) (among (λ t. not (is_one_of t assignment_operators)) update_operators op refl is)) ∙ behind_extended (read limit) i t n q op c is simple)
+    (is_updated refl (omega arith)) (omega arith) (λ h. omega arith) (λ h h'. absurd (omega arith)) (λ h. absurd (omega arith))
+    (λ limit fits h. extends_sign (read limit) i t n q tok (not-true (is_one_of op assignment_operators) (among (λ t. not (is_one_of t assignment_operators)) update_operators op refl is)) ∙ behind_extended (read limit) i t n q op c is simple)
 
 -- ---- #x in r (13.10)
 
@@ -136,7 +139,7 @@ private_in_read {x = x} high tok tok' y =
     let s2 = tok'.shorter in
     let s3 = y.shorter in
     lower_read 11 (omega arith) (omega arith) (omega arith) (ends_right y.ends (omega arith) (λ h. absurd (omega arith))) (omega arith) (λ h. omega arith) (λ h h'. omega arith) (λ h. absurd (omega arith))
-        (λ limit least low fits h. literal_there (read limit) true least tok ∙ ap (private_in (read limit) true x) tok.after_is ∙ private_there limit x tok' high y (omega arith) h)
+    (λ limit least low fits h. literal_there (read limit) true least tok ∙ ap (private_in (read limit) true x) tok.after_is ∙ private_there limit x tok' high y (omega arith) h)
 
 -- ---- yield (15.5)
 
@@ -151,7 +154,7 @@ loose_ends i k b h = h
 pub bare_yield_read : {i : Bool} {a b : Text} → Seen (word (codes "yield")) a b → IsRead i (depth (marked Kind.YieldExpression [] (one absent))) (closed (marked Kind.YieldExpression [] (one absent)) 2) a b
 bare_yield_read {i} {b = b} tok =
     lower_read 1 tok.shorter (omega arith) (omega arith) (is_loose refl (omega arith)) (omega arith) (λ h. absurd (omega arith)) (λ h. absurd (omega arith)) (λ h. absurd (omega arith))
-        (λ limit least low fits h. word_there (read limit) i least tok ∙ bare_there (read limit) i (loose_ends i 1 b h))
+    (λ limit least low fits h. word_there (read limit) i least tok ∙ bare_there (read limit) i (loose_ends i 1 b h))
 
 -- where an expression begins, no operand has ended
 not_ended : (b : Text) → same_line b ≡ true → at_end b ≡ false → sees (codes ")") b ≡ false → sees (codes "]") b ≡ false → sees (codes "}") b ≡ false → sees (codes ",") b ≡ false → sees (codes ";") b ≡ false → sees (codes ":") b ≡ false → ends_operand b ≡ false
@@ -171,7 +174,7 @@ yielding_read {i} tok line starts x =
     let s1 = tok.shorter in
     let s2 = x.shorter in
     lower_read 1 (omega arith) (omega arith) (omega arith) (ends_low x.ends) (omega arith) (λ h. absurd (omega arith)) (λ h. absurd (omega arith)) (λ h. absurd (omega arith))
-        (λ limit least low fits h. word_there (read limit) i least tok ∙ yielding_there limit line starts x (omega arith) h)
+    (λ limit least low fits h. word_there (read limit) i least tok ∙ yielding_there limit line starts x (omega arith) h)
 
 star_seen : {b c : Text} → same_line b ≡ true → Seen (sign (codes "*")) b c → ends_operand b ≡ false
 star_seen {b} line tok = not_ended b line (seen_not_end tok) (sees_by (codes ")") tok) (sees_by (codes "]") tok) (sees_by (codes "}") tok) (sees_by (codes ",") tok) (sees_by (codes ";") tok) (sees_by (codes ":") tok)
@@ -186,4 +189,4 @@ delegating_read {i} tok line tok' x =
     let s2 = tok'.shorter in
     let s3 = x.shorter in
     lower_read 1 (omega arith) (omega arith) (omega arith) (ends_low x.ends) (omega arith) (λ h. absurd (omega arith)) (λ h. absurd (omega arith)) (λ h. absurd (omega arith))
-        (λ limit least low fits h. word_there (read limit) i least tok ∙ delegating_there limit line tok' x (omega arith) h)
+    (λ limit least low fits h. word_there (read limit) i least tok ∙ delegating_there limit line tok' x (omega arith) h)

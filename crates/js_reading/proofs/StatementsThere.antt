@@ -28,8 +28,9 @@ use Rattle.js_reading.proofs.Lists.{is_end, ending_end, sees_sign}
 use Rattle.js_reading.proofs.Listings.{IsReadExpression, expression_before}
 use Rattle.js_reading.proofs.Follows.{Ends}
 use Rattle.js_reading.proofs.Claims.{IsReadStatements}
-use Rattle.js_reading.proofs.Ending.{Behind, behind_semicolon}
-use Rattle.js_reading.proofs.StatementStarts.{starts, starts_no_sign, starts_no_word, Follows, starts_follow, token_follows, IsReadStatement}
+use Rattle.js_reading.proofs.Endings.{ended_holds, ended_comma}
+use Rattle.js_reading.proofs.Opens.{begins, no_sign_there}
+use Rattle.js_reading.proofs.StatementStarts.{starts, begins_starts, starts_no_end, starts_no_sign, starts_no_word, Follows, starts_follow, token_follows, IsReadStatement}
 
 -- ---- a statement as a part
 
@@ -208,4 +209,105 @@ do_read t y t' x end = let r = y.read in record {
   begun = ap starts t.lexeme_is;
   deep = omega arith;
   reads = λ limit fits w h. do_reads limit t y t' x end (omega arith) (omega arith);
+}
+
+present_ends : (e s t : Term) → 0 < depth t → ends_open (if_of e s t) ≡ ends_open t
+present_ends e s absent h = absurd (omega arith)
+present_ends e s (list ts) h = refl
+present_ends e s (node k texts ts) h = refl
+
+if_else_reads : {e s t : Term} {a b c d f g : Text} (limit : ℕ) → ends_open s ≡ false → Seen (word (codes "if")) a b → IsReadCondition e b c → IsReadEmbedded s c d → Seen (word (codes "else")) d f → IsReadEmbedded t f g → depth e ≤ limit → depth s ≤ limit → depth t ≤ limit → Follows g → (sees_word (codes "else") g && ends_open t) ≡ false → statement (read limit) a ≡ Some (if_of e s t, g)
+unfolding word_statement if_statement alternate
+if_else_reads {s = s} {d = d} limit shut t x y t' z fits fits' fits'' w h =
+    word_there (read limit) t ∙ rw (t.after_is, x.reads limit fits, embedded_reads limit y fits' (word_follows t') (shut_in (sees_word (codes "else") d) shut), sees_word_by (codes "else") t', t'.after_is, embedded_reads limit z fits'' w h, shut)
+  where
+    shut_in : (p : Bool) → ends_open s ≡ false → (p && ends_open s) ≡ false
+    shut_in true e = e
+    shut_in false e = refl
+
+pub if_else_read : {e s t : Term} {a b c d f g : Text} → ends_open s ≡ false → Seen (word (codes "if")) a b → IsReadCondition e b c → IsReadEmbedded s c d → Seen (word (codes "else")) d f → IsReadEmbedded t f g → IsReadStatement (if_of e s t) a g
+if_else_read {e} {s} {t} {g = g} shut w x y w' z = let r = y.read in let q = z.read in record {
+  utf8 = q.utf8;
+  shorter = let s1 = w.shorter in let s2 = x.shorter in let s3 = r.shorter in let s4 = w'.shorter in let s5 = q.shorter in omega arith;
+  begun = ap starts w.lexeme_is;
+  deep = omega arith;
+  reads = λ limit fits v h. if_else_reads limit shut w x y w' z (omega arith) (omega arith) (omega arith) v (ap (λ (k : Bool). sees_word (codes "else") g && k) (sym (present_ends e s t q.deep)) ∙ h);
+}
+
+-- ---- what ends with an expression
+
+-- an expression, and the semicolon behind it
+pub record IsReadEnding (e : Term) (a c : Text) : Type 0 where
+  pub utf8 : IsUtf8 c
+  pub shorter : length c < length a
+  pub deep : 0 < depth e
+  pub begun : begins (lexeme a) ≡ true
+  pub reads : (limit : ℕ) → depth e ≤ limit → ended (read limit) a ≡ Some (e, c)
+
+ending_reads : {n : ℕ} {e : Term} {a b c : Text} (limit : ℕ) → IsReadExpression true e a b → Ends n (edge e) → Semicolon (edge e) b c → depth e ≤ limit → ended (read limit) a ≡ Some (e, c)
+unfolding ended
+ending_reads limit x ends end fits = let k = ended_at end x.utf8 in rw (x.reads limit fits (ended_holds true 1 k x.utf8 ends) (ended_comma k ends), semicolon_read end x.utf8)
+
+pub ending_read : {n : ℕ} {e : Term} {a b c : Text} → begins (lexeme a) ≡ true → IsReadExpression true e a b → Ends n (edge e) → Semicolon (edge e) b c → IsReadEnding e a c
+ending_read begun x ends end = record {
+  utf8 = semicolon_utf8 end x.utf8;
+  shorter = let s = x.shorter in let k = semicolon_short end x.utf8 in omega arith;
+  deep = x.deep;
+  begun = begun;
+  reads = λ limit fits. ending_reads limit x ends end fits;
+}
+
+-- an operand of `return` stands on its line
+no_semicolon : (b : Text) → begins (lexeme b) ≡ true → sees (codes ";") b ≡ false
+no_semicolon b h = no_sign_there (codes ";") b h refl
+
+operand_here : (b : Text) → begins (lexeme b) ≡ true → same_line b ≡ true → ends_here b ≡ false
+unfolding ends_here left_out
+operand_here b h line =
+    let s = begins_starts (lexeme b) h in
+    rw (no_semicolon b h, starts_no_sign (codes "}") b s refl, starts_no_end b s, line) refl
+
+return_reads : {e : Term} {a b c : Text} (limit : ℕ) → Seen (word (codes "return")) a b → same_line b ≡ true → IsReadEnding e b c → depth e ≤ limit → statement (read limit) a ≡ Some (return_of e, c)
+unfolding word_statement return_statement
+return_reads {b = b} limit t line x fits = word_there (read limit) t ∙ rw (t.after_is, operand_here b x.begun line, x.reads limit fits)
+
+pub return_read : {e : Term} {a b c : Text} → Seen (word (codes "return")) a b → same_line b ≡ true → IsReadEnding e b c → IsReadStatement (return_of e) a c
+return_read t line x = record {
+  utf8 = x.utf8;
+  shorter = let s1 = t.shorter in let s2 = x.shorter in omega arith;
+  begun = ap starts t.lexeme_is;
+  deep = omega arith;
+  reads = λ limit fits w h. return_reads limit t line x (omega arith);
+}
+
+throw_reads : {e : Term} {a b c : Text} (limit : ℕ) → Seen (word (codes "throw")) a b → same_line b ≡ true → IsReadEnding e b c → depth e ≤ limit → statement (read limit) a ≡ Some (of_part Kind.ThrowStatement e, c)
+unfolding word_statement throw_statement
+throw_reads limit t line x fits = word_there (read limit) t ∙ rw (t.after_is, line, x.reads limit fits)
+
+pub throw_read : {e : Term} {a b c : Text} → Seen (word (codes "throw")) a b → same_line b ≡ true → IsReadEnding e b c → IsReadStatement (of_part Kind.ThrowStatement e) a c
+throw_read t line x = record {
+  utf8 = x.utf8;
+  shorter = let s1 = t.shorter in let s2 = x.shorter in omega arith;
+  begun = ap starts t.lexeme_is;
+  deep = omega arith;
+  reads = λ limit fits w h. throw_reads limit t line x (omega arith);
+}
+
+-- where a semicolon may stand, nothing of `return`, `break` or `continue` does
+plain_here : {a b : Text} → Ended plain a b → ends_here a ≡ true
+unfolding ends_here
+plain_here {a} (by_sign t) = rw (sees_by (codes ";") t) refl
+plain_here {a} (by_stop same stop) = let l = stop.left in let s = stop.no_semicolon in rw (s, l) refl
+
+bare_reads : {a b c : Text} (limit : ℕ) → Seen (word (codes "return")) a b → Semicolon plain b c → statement (read limit) a ≡ Some (return_of absent, c)
+unfolding word_statement return_statement
+bare_reads limit t end = word_there (read limit) t ∙ rw (t.after_is, plain_here (ended_at end t.utf8), semicolon_read end t.utf8)
+
+pub bare_return_read : {a b c : Text} → Seen (word (codes "return")) a b → Semicolon plain b c → IsReadStatement (return_of absent) a c
+bare_return_read t end = record {
+  utf8 = semicolon_utf8 end t.utf8;
+  shorter = let s = t.shorter in let k = semicolon_short end t.utf8 in omega arith;
+  begun = ap starts t.lexeme_is;
+  deep = omega arith;
+  reads = λ limit fits w h. bare_reads limit t end;
 }

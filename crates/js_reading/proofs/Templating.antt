@@ -1,8 +1,7 @@
 -- Templates and keys that stand in a text are read.
-use Rattle.std.proofs.Common.{◌≡◌, ◌≤◌, ◌<◌, ℕ, zero, suc, Bool, true, false, not, ◌&&◌, ◌||◌, if◌then◌else◌, List, [], ◌∷◌, ◌++◌, length, Option, Some, None, refl, sym, subst, ◌∙◌, ap, append_assoc, append-nil, arith, codes}
+use Rattle.std.proofs.Common.{◌≡◌, ◌≤◌, ◌<◌, ℕ, zero, suc, Bool, true, false, not, ◌||◌, List, [], ◌∷◌, ◌++◌, length, Option, Some, None, refl, sym, ◌∙◌, ap, append_assoc, append-nil, arith, codes}
 use Rattle.std.specs.Str.{IsUtf8}
-use Rattle.std.proofs.lemmas.Bool.{false≢true}
-use Rattle.js_term.specs.Term.{Text, is_text, Term, list, node, none, all, depth, depths}
+use Rattle.js_term.specs.Term.{Text, Term, all, depth, depths}
 use Rattle.js_term.specs.declared.kind.Kind.{Kind}
 use Rattle.js_term.specs.Node.{name_of, string_of, number_of}
 use Rattle.js_syntax.specs.Lexical.{has_sound_escapes}
@@ -11,8 +10,8 @@ use Rattle.js_syntax.specs.Tokens.{Lexeme, word, private_name, number, big_integ
 use Rattle.js_syntax.specs.Edges.{edge}
 use Rattle.js_tokens.specs.Next.{lexeme, after}
 use Rattle.js_reading.specs.declared.goal.Goal.{Goal}
-use Rattle.js_reading.specs.Reading.{Found, Reading, ◌>>=◌, sees, expect, begins_key_by}
-use Rattle.js_reading.specs.Parts.{Key, Quasis, quasi, is_allowed, expression, part, computed_key, key_by, key, member_key_by, member_key, quasi_by, template_rest, template_by}
+use Rattle.js_reading.specs.Reading.{Found, Reading, begins_key_by}
+use Rattle.js_reading.specs.Parts.{Key, quasi, expression, computed_key, key_by, key, member_key_by, member_key, template_rest, template_by}
 use Rattle.js_reading.specs.Read.{read}
 use Rattle.js_reading.proofs.TokensThere.{Seen, SeenTail, sees_by, expect_read}
 use Rattle.js_reading.proofs.TokensEnd.{lexeme_sees}
