@@ -2,13 +2,18 @@
 use Rattle.std.proofs.Common.{◌≡◌, ◌≤◌, ◌<◌, ℕ, zero, suc, Bool, true, false, not, ◌&&◌, ◌||◌, if◌then◌else◌, nat_le, nat_eq, List, [], ◌∷◌, length, Option, Some, None, refl, sym, subst, ◌∙◌, ap, arith, codes}
 use Rattle.std.specs.Str.{IsUtf8}
 use Rattle.std.proofs.lemmas.Bool.{false≢true, not-true, and_parts, or_parts, le-leb, eqb-true, or_left, or_right, ltb-true}
-use Rattle.js_term.specs.Term.{Text, is_text, Term}
+use Rattle.js_term.specs.Term.{Text, is_text, Term, depth}
 use Rattle.js_term.specs.Lexeme.{is_one_of}
 use Rattle.js_syntax.specs.Tokens.{Lexeme, word, private_name, number, big_integer, string, regexp, no_substitution, template_head, template_middle, template_tail, sign, signs}
-use Rattle.js_syntax.specs.Edges.{Edge, full, updated, loose, is_update, is_operator, is_access, goes_on_with}
+use Rattle.js_syntax.specs.Edges.{Edge, edge, full, updated, loose, is_update, is_operator, is_access, goes_on_with}
 use Rattle.js_syntax.specs.Spelling.{Semicolon}
 use Rattle.js_syntax.proofs.Fronts.{among}
 use Rattle.js_tokens.specs.Next.{lexeme, after}
+use Rattle.js_reading.specs.declared.goal.Goal.TheVariants as goal
+use Rattle.js_reading.specs.Parts.{expression, part}
+use Rattle.js_reading.specs.Read.{read}
+use Rattle.js_reading.proofs.Climbs.{right_read}
+use Rattle.js_reading.proofs.Listings.{IsReadExpression, StandsRead}
 use Rattle.js_reading.specs.Reading.{is_sign, is_word, sees, sees_word, same_line, at_end, arrow_here, goes_on_at, left_out}
 use Rattle.js_reading.specs.Operators.{sign_levels, sign_binds, word_binds, binds}
 use Rattle.js_reading.specs.Expressions.{ends_operand, is_arrow_name, is_link}
@@ -173,3 +178,11 @@ ended_comma {n} {e} {a} (by_stop same stop) ends = left_cases e a stop.left
     go : (t : Bool) → sees (codes ",") a ≡ t → goes_on_at e (lexeme a) ≡ false → sees (codes ",") a ≡ false
     go false is h = is
     go true is h = absurd (false≢true (sym h ∙ ap (goes_on_at e) (sees_sign (codes ",") a is) ∙ comma_goes ends))
+
+-- An expression is read before the semicolon of its statement.
+pub before_semicolon : {i : Bool} {e : Term} {a b c : Text} → IsReadExpression i e a b → Semicolon (edge e) b c → (limit : ℕ) → depth e ≤ limit → expression (read limit) i a ≡ Some (e, b)
+before_semicolon {i} x end limit fits = let h = ended end x.utf8 in x.reads limit fits (ended_holds i 1 h x.utf8 x.ends) (ended_comma h x.ends)
+
+-- and one without commas, as an initializer
+pub part_before_semicolon : {i : Bool} {n : ℕ} {e : Term} {a b c : Text} → StandsRead i n e a b → Semicolon (edge e) b c → (limit : ℕ) → depth e ≤ limit → part (read limit) (goal.Expression 2 i) a ≡ Some (e, b)
+part_before_semicolon {i} x end limit fits = let r = x.read in right_read r limit fits (ended_holds i 1 (ended end x.utf8) x.utf8 r.ends)
