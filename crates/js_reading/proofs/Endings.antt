@@ -1,23 +1,28 @@
 -- A semicolon, or the place where it is left out, may follow an expression.
-use Rattle.std.proofs.Common.{◌≡◌, ◌≤◌, ◌<◌, ℕ, zero, suc, Bool, true, false, not, ◌&&◌, ◌||◌, if◌then◌else◌, nat_le, nat_eq, List, [], ◌∷◌, length, Option, Some, None, refl, sym, subst, ◌∙◌, ap, arith, codes}
+use Rattle.std.proofs.Common.{◌≡◌, ◌≤◌, ℕ, Bool, true, false, not, ◌&&◌, ◌||◌, if◌then◌else◌, nat_le, nat_eq, Option, Some, None, refl, sym, subst, ◌∙◌, ap, arith, codes}
 use Rattle.std.specs.Str.{IsUtf8}
-use Rattle.std.proofs.lemmas.Bool.{false≢true, not-true, and_parts, or_parts, le-leb, eqb-true, or_left, or_right, ltb-true}
-use Rattle.js_term.specs.Term.{Text, is_text, Term}
+use Rattle.std.proofs.lemmas.Bool.{false≢true, or_parts, eqb-true, or_right}
+use Rattle.js_term.specs.Term.{Text, is_text, Term, depth}
 use Rattle.js_term.specs.Lexeme.{is_one_of}
 use Rattle.js_syntax.specs.Tokens.{Lexeme, word, private_name, number, big_integer, string, regexp, no_substitution, template_head, template_middle, template_tail, sign, signs}
-use Rattle.js_syntax.specs.Edges.{Edge, full, updated, loose, is_update, is_operator, is_access, goes_on_with}
+use Rattle.js_syntax.specs.Edges.{Edge, edge, full, updated, is_update, is_operator, is_access}
 use Rattle.js_syntax.specs.Spelling.{Semicolon}
 use Rattle.js_syntax.proofs.Fronts.{among}
-use Rattle.js_tokens.specs.Next.{lexeme, after}
-use Rattle.js_reading.specs.Reading.{is_sign, is_word, sees, sees_word, same_line, at_end, arrow_here, goes_on_at, left_out}
-use Rattle.js_reading.specs.Operators.{sign_levels, sign_binds, word_binds, binds}
-use Rattle.js_reading.specs.Expressions.{ends_operand, is_arrow_name, is_link}
+use Rattle.js_tokens.specs.Next.{lexeme}
+use Rattle.js_reading.specs.declared.goal.Goal.TheVariants as goal
+use Rattle.js_reading.specs.Parts.{expression, part}
+use Rattle.js_reading.specs.Read.{read}
+use Rattle.js_reading.proofs.Climbs.{right_read}
+use Rattle.js_reading.proofs.Listings.{IsReadExpression, StandsRead}
+use Rattle.js_reading.specs.Reading.{sees, sees_word, same_line, at_end, arrow_here, goes_on_at, left_out}
+use Rattle.js_reading.specs.Operators.{sign_binds, word_binds, binds}
+use Rattle.js_reading.specs.Expressions.{ends_operand}
 use Rattle.js_reading.proofs.Each.{there}
 use Rattle.js_reading.proofs.Operations.{is_sign_text}
-use Rattle.js_reading.proofs.TokensThere.{Seen, sees_by}
-use Rattle.js_reading.proofs.TokensEnd.{Ended, by_sign, by_stop, Stops, ended, end_none, lexeme_sees}
-use Rattle.js_reading.proofs.Lists.{is_end, ending_end, sees_sign}
-use Rattle.js_reading.proofs.Follows.{takes_name, broken, tightness, tightness_by, is_access_at, holds, Ends, is_full, is_updated, is_loose, sign_row, end_holds, free_holds, either_case}
+use Rattle.js_reading.proofs.TokensThere.{sees_by}
+use Rattle.js_reading.proofs.TokensEnd.{Ended, by_sign, by_stop, ended, end_none, lexeme_sees}
+use Rattle.js_reading.proofs.Lists.{ending_end, sees_sign}
+use Rattle.js_reading.proofs.Follows.{takes_name, broken, tightness, tightness_by, is_access_at, holds, Ends, is_full, is_updated, is_loose, end_holds, free_holds}
 
 -- whether a token goes on with what ends in an update
 abbrev goes_on_update : Option Lexeme → Bool
@@ -173,3 +178,11 @@ ended_comma {n} {e} {a} (by_stop same stop) ends = left_cases e a stop.left
     go : (t : Bool) → sees (codes ",") a ≡ t → goes_on_at e (lexeme a) ≡ false → sees (codes ",") a ≡ false
     go false is h = is
     go true is h = absurd (false≢true (sym h ∙ ap (goes_on_at e) (sees_sign (codes ",") a is) ∙ comma_goes ends))
+
+-- An expression is read before the semicolon of its statement.
+pub before_semicolon : {i : Bool} {e : Term} {a b c : Text} → IsReadExpression i e a b → Semicolon (edge e) b c → (limit : ℕ) → depth e ≤ limit → expression (read limit) i a ≡ Some (e, b)
+before_semicolon {i} x end limit fits = let h = ended end x.utf8 in x.reads limit fits (ended_holds i 1 h x.utf8 x.ends) (ended_comma h x.ends)
+
+-- and one without commas, as an initializer
+pub part_before_semicolon : {i : Bool} {n : ℕ} {e : Term} {a b c : Text} → StandsRead i n e a b → Semicolon (edge e) b c → (limit : ℕ) → depth e ≤ limit → part (read limit) (goal.Expression 2 i) a ≡ Some (e, b)
+part_before_semicolon {i} x end limit fits = let r = x.read in right_read r limit fits (ended_holds i 1 (ended end x.utf8) x.utf8 r.ends)
