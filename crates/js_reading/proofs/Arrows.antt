@@ -1,31 +1,29 @@
 -- Assignments and arrow functions that stand in a text are read.
-use Rattle.std.proofs.Common.{◌≡◌, ◌≤◌, ◌<◌, ℕ, zero, suc, Bool, true, false, not, ◌&&◌, ◌||◌, if◌then◌else◌, nat_le, nat_eq, map, List, [], ◌∷◌, ◌++◌, length, Option, Some, None, refl, sym, subst, ◌∙◌, ap, arith, codes}
+use Rattle.std.proofs.Common.{◌≡◌, ◌≤◌, ◌<◌, ℕ, suc, Bool, true, false, not, ◌&&◌, ◌||◌, if◌then◌else◌, nat_le, nat_eq, List, [], ◌∷◌, length, Some, refl, sym, subst, ◌∙◌, ap, arith, codes}
 use Rattle.std.specs.Str.{IsUtf8}
-use Rattle.std.proofs.lemmas.Bool.{false≢true, not-true, eqb-true, le-leb, and_from}
-use Rattle.js_term.specs.Term.{Text, is_text, Term, Terms, absent, list, node, none, one, two, all, depth, depths}
+use Rattle.std.proofs.lemmas.Bool.{false≢true, not-true, eqb-true, le-leb}
+use Rattle.js_term.specs.Term.{Text, is_text, Term, node, two, depth}
 use Rattle.js_term.specs.declared.kind.Kind.{Kind}
 use Rattle.js_term.specs.Lexeme.{is_reserved, is_one_of}
-use Rattle.js_term.specs.Node.{binding_of, identifier_of}
-use Rattle.js_syntax.specs.Nodes.{marked, rested, parameter_of}
+use Rattle.js_syntax.specs.Nodes.{marked}
 use Rattle.js_syntax.specs.Texts.{assignment_operators}
-use Rattle.js_syntax.specs.Tokens.{Lexeme, word, sign}
-use Rattle.js_syntax.specs.Edges.{Edge, full, loose, edge, is_simple_target, is_update, member_level, is_coalesce_left, begins_with_brace}
+use Rattle.js_syntax.specs.Tokens.{word, sign}
+use Rattle.js_syntax.specs.Edges.{loose, edge, is_simple_target, is_update, member_level, is_coalesce_left, begins_with_brace}
 use Rattle.js_syntax.proofs.Fronts.{same_text, among}
-use Rattle.js_tokens.specs.Next.{lexeme, after}
 use Rattle.js_reading.specs.declared.goal.Goal.{Goal}
 use Rattle.js_reading.specs.declared.goal.Goal.TheVariants as goal
-use Rattle.js_reading.specs.Reading.{Found, closed, Reading, ◌>>=◌, sees, sees_word, same_line, arrow_here, expect, group}
+use Rattle.js_reading.specs.Reading.{Found, closed, Reading, sees, same_line, arrow_here}
 use Rattle.js_reading.specs.Operators.{sign_binds, sign_gives, sign_needs}
 use Rattle.js_reading.specs.Targets.{target_of}
-use Rattle.js_reading.specs.Parts.{part, item}
+use Rattle.js_reading.specs.Parts.{part}
 use Rattle.js_reading.specs.Functions.{body}
-use Rattle.js_reading.specs.Expressions.{at, target_in, assigned_in, parameters_in, named_parameters, is_arrow_name, arrow_body, arrow, arrow_by, parenthesized, async_parenthesized, named, async_named_by, async_by, async_expression, operated, assigned_by, extended, word_prefix, prefix}
+use Rattle.js_reading.specs.Expressions.{assigned_in, parameters_in, named_parameters, arrow_body, arrow, parenthesized, async_parenthesized, named, async_by, async_expression, extended, word_prefix, prefix}
 use Rattle.js_reading.specs.Read.{read}
 use Rattle.js_reading.proofs.TokensThere.{Seen, sees_by, sees_word_by, expect_read}
 use Rattle.js_reading.proofs.Opens.{Opens}
 use Rattle.js_reading.proofs.Lists.{ReadsGroup}
-use Rattle.js_reading.proofs.Follows.{holds, Ends, is_full, is_updated, is_loose, either_case}
-use Rattle.js_reading.proofs.Climbs.{whole, quiet, quiet_other, IsRead, right_read, sign_joins, joined_read, lower_read, ends_low}
+use Rattle.js_reading.proofs.Follows.{holds, Ends, is_loose}
+use Rattle.js_reading.proofs.Climbs.{whole, quiet_other, IsRead, right_read, sign_joins, joined_read, lower_read, ends_low}
 use Rattle.js_reading.proofs.Leaves.{not_text, word_there}
 use Rattle.js_reading.proofs.Leaves as leaves
 use Rattle.js_reading.proofs.Listings.{StandsRead, item_of}

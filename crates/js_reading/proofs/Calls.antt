@@ -1,30 +1,29 @@
 -- Calls, `new`, `super` and imports that stand in a text are read.
-use Rattle.std.proofs.Common.{◌≡◌, ◌≤◌, ◌<◌, ℕ, zero, suc, Bool, true, false, not, ◌&&◌, ◌||◌, if◌then◌else◌, nat_le, nat_eq, map, List, [], ◌∷◌, ◌++◌, length, Option, Some, None, refl, sym, subst, ◌⊎◌, inl, inr, ◌∙◌, ap, arith, codes}
+use Rattle.std.proofs.Common.{◌≡◌, ◌≤◌, ◌<◌, ℕ, zero, suc, Bool, true, false, ◌&&◌, if◌then◌else◌, nat_le, List, length, Some, None, refl, sym, subst, ◌⊎◌, inl, inr, ◌∙◌, ap, arith, codes}
 use Rattle.std.specs.Str.{IsUtf8}
-use Rattle.std.proofs.lemmas.Bool.{false≢true, not-true, leb-true, le-leb, lt-leb, cases_lt}
-use Rattle.js_term.specs.Term.{Text, is_text, Term, Terms, absent, list, node, none, one, two, all, depth, depths}
+use Rattle.std.proofs.lemmas.Bool.{false≢true, le-leb, lt-leb, cases_lt}
+use Rattle.js_term.specs.Term.{Text, Term, absent, none, all, depth, depths}
 use Rattle.js_term.specs.declared.kind.Kind.{Kind}
-use Rattle.js_term.specs.Lexeme.{is_reserved, is_one_of}
 use Rattle.js_term.specs.Node.{identifier_of}
-use Rattle.js_syntax.specs.Nodes.{alone, of_part, of_parts, call_link, super_of, new_of}
-use Rattle.js_syntax.specs.Tokens.{Lexeme, word, sign}
+use Rattle.js_syntax.specs.Nodes.{alone, of_parts, call_link, super_of, new_of}
+use Rattle.js_syntax.specs.Tokens.{word, sign}
 use Rattle.js_syntax.specs.Edges.{Edge, full, edge, is_private_member}
 use Rattle.js_tokens.specs.Next.{lexeme, after}
 use Rattle.js_reading.specs.declared.goal.Goal.{Goal}
 use Rattle.js_reading.specs.declared.goal.Goal.TheVariants as goal
-use Rattle.js_reading.specs.Reading.{Found, closed, Reading, ◌>>=◌, sees, sees_word, same_line, arrow_here, expect, expect_word, group, trees, any_cover}
+use Rattle.js_reading.specs.Reading.{Found, closed, Reading, ◌>>=◌, sees, same_line, arrow_here}
 use Rattle.js_reading.specs.Operators.{goes_on}
-use Rattle.js_reading.specs.Parts.{arguments, expression, item, part}
-use Rattle.js_reading.specs.Expressions.{at, is_bare_new, constructed_by, new_expression, second_argument, import_options, import_call, import_expression, dotted, computed, called, super_member, super_expression, async_call, async_parenthesized, async_by, async_expression, word_prefix, prefix, climb, at_level, callee, link_by}
-use Rattle.js_reading.specs.Read.{step, read}
+use Rattle.js_reading.specs.Parts.{arguments}
+use Rattle.js_reading.specs.Expressions.{at, is_bare_new, constructed_by, new_expression, second_argument, import_options, import_call, import_expression, super_member, super_expression, async_parenthesized, async_by, async_expression, prefix, climb, at_level, callee}
+use Rattle.js_reading.specs.Read.{read}
 use Rattle.js_reading.proofs.TokensThere.{Seen, sees_by, sees_word_by, expect_read, expect_word_read}
 use Rattle.js_reading.proofs.Opens.{begins, no_sign_there}
-use Rattle.js_reading.proofs.Lists.{is_end, ending_end, sees_sign, ReadsGroup}
-use Rattle.js_reading.proofs.Follows.{tightness, takes_name, sign_takes, holds, Ends, is_full, is_updated, is_loose, end_holds, stops, wider, either_case}
-use Rattle.js_reading.proofs.Climbs.{whole, quiet, quiet_not_async, quiet_broken, is_async, IsRead, Reach, first_reach, climb_stops, full_low, paren_tight, no_name, sign_joins, joined_read, lower_read, grow, right_read, Joins}
+use Rattle.js_reading.proofs.Lists.{is_end, ending_end, sees_sign}
+use Rattle.js_reading.proofs.Follows.{tightness, takes_name, sign_takes, holds, Ends, is_full, is_updated, is_loose, end_holds, stops, wider}
+use Rattle.js_reading.proofs.Climbs.{whole, quiet_not_async, quiet_broken, is_async, IsRead, Reach, first_reach, climb_stops, full_low, paren_tight, no_name, sign_joins, lower_read, grow, right_read}
 use Rattle.js_reading.proofs.Leaves.{word_there, no_arrow, name_prefix, leaf_read}
 use Rattle.js_reading.proofs.Operations.{extends_sign}
-use Rattle.js_reading.proofs.Listings.{IsReadExpression, expression_before, FoundGroup, item_of, StandsRead}
+use Rattle.js_reading.proofs.Listings.{FoundGroup, item_of}
 use Rattle.js_reading.proofs.Links.{LinkRead, ArgumentsRead, arguments_read, called_there, plain_call_read}
 
 -- ---- calls

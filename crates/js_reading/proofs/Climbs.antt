@@ -1,21 +1,20 @@
 -- An expression that is read, and what goes on with it.
-use Rattle.std.proofs.Common.{◌≡◌, ◌≤◌, ◌<◌, ℕ, zero, suc, Bool, true, false, not, ◌&&◌, ◌||◌, if◌then◌else◌, nat_le, List, [], ◌∷◌, length, Option, Some, None, refl, sym, subst, ◌⊎◌, inl, inr, ◌∙◌, ap, arith, codes}
-use Rattle.std.proofs.lemmas.Bool.{false≢true, and_parts, and_from, leb-true, le-leb, lt-leb, cases_lt}
-use Rattle.js_term.specs.Term.{Text, is_text, Term, Terms, absent, list, node, none, more}
+use Rattle.std.proofs.Common.{◌≡◌, ◌≤◌, ◌<◌, ℕ, zero, suc, Bool, true, false, not, ◌&&◌, ◌||◌, nat_le, [], ◌∷◌, length, Option, Some, refl, sym, subst, ◌⊎◌, inl, inr, ◌∙◌, arith, codes}
+use Rattle.std.proofs.lemmas.Bool.{false≢true, leb-true, le-leb, cases_lt}
+use Rattle.js_term.specs.Term.{Text, is_text, Term, node, none}
 use Rattle.js_term.specs.declared.kind.Kind.{Kind}
 use Rattle.js_syntax.specs.Tokens.{Lexeme, sign}
-use Rattle.js_syntax.specs.Edges.{Edge, full, loose, edge, is_update, is_coalesce_left}
-use Rattle.js_tokens.specs.Next.{lexeme, after}
-use Rattle.js_reading.specs.declared.goal.Goal.{Goal}
+use Rattle.js_syntax.specs.Edges.{Edge, full, edge, is_update, is_coalesce_left}
+use Rattle.js_tokens.specs.Next.{lexeme}
 use Rattle.js_reading.specs.declared.goal.Goal.TheVariants as goal
-use Rattle.js_reading.specs.Reading.{Found, closed, Reading, ◌>>=◌, sees, same_line}
+use Rattle.js_reading.specs.Reading.{Found, closed, sees, same_line}
 use Rattle.js_reading.specs.Operators.{sign_binds, binds, sign_gives, gives, sign_needs, needs, suits, goes_on_by, goes_on}
-use Rattle.js_reading.specs.Parts.{settled, part}
+use Rattle.js_reading.specs.Parts.{part}
 use Rattle.js_reading.specs.Expressions.{prefix, extended, climb, at_level}
-use Rattle.js_reading.specs.Read.{step, read}
-use Rattle.js_reading.proofs.TokensThere.{Seen, sees_by}
-use Rattle.js_reading.proofs.Lists.{sees_sign, is_end}
-use Rattle.js_reading.proofs.Follows.{tightness, tightness_by, takes_name, sign_takes, broken, holds, Ends, is_full, is_updated, is_loose, stops, end_holds, wider, sign_tight, tight_holds}
+use Rattle.js_reading.specs.Read.{read}
+use Rattle.js_reading.proofs.TokensThere.{Seen}
+use Rattle.js_reading.proofs.Lists.{sees_sign}
+use Rattle.js_reading.proofs.Follows.{tightness, tightness_by, takes_name, sign_takes, broken, holds, Ends, is_full, is_updated, is_loose, stops, wider, sign_tight, tight_holds}
 
 -- A tree, its level, and whether it is barred.
 abbrev pub whole : Term → ℕ → Bool → Found

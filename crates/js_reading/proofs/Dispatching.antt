@@ -1,28 +1,26 @@
 -- Expressions by their derivations, from what is read of their parts: lemmas without a tactic left to do, for the dispatch.
-use Rattle.std.proofs.Common.{◌≡◌, ◌≤◌, ℕ, suc, Bool, true, false, not, ◌||◌, List, [], ◌∷◌, Option, Some, None, refl, sym, ◌∙◌, arith, codes}
+use Rattle.std.proofs.Common.{◌≡◌, ◌≤◌, ℕ, suc, Bool, true, false, not, ◌||◌, List, [], Some, refl, codes}
 use Rattle.std.specs.Str.{IsUtf8}
-use Rattle.js_term.specs.Term.{Text, is_text, Term, absent, list, node, none, one, two, all}
+use Rattle.js_term.specs.Term.{Text, is_text, Term, absent, node, one, two, all}
 use Rattle.js_term.specs.declared.kind.Kind.{Kind}
 use Rattle.js_term.specs.Lexeme.{is_one_of}
-use Rattle.js_term.specs.Node.{await_of, parenthesized_of, sequence_of, identifier_of}
+use Rattle.js_term.specs.Node.{await_of}
 use Rattle.js_syntax.specs.Nodes.{marked, three, of_part, of_parts, private_of, super_of, call_link, new_of, update_of, template_of}
 use Rattle.js_syntax.specs.Parts.{is_node}
 use Rattle.js_syntax.specs.Texts.{assignment_operators}
-use Rattle.js_syntax.specs.Tokens.{Lexeme, word, private_name, sign, Word, Sign, SameLine}
-use Rattle.js_syntax.specs.Edges.{Edge, full, edge, is_unary, is_update, is_simple_target, is_private_member, is_coalesce_left, member_level, binary_level}
-use Rattle.js_syntax.specs.Spelling as spell
-use Rattle.js_syntax.specs.Spelling.{Stands, FunctionText, ClassText, is_several}
-use Rattle.js_tokens.specs.Next.{lexeme, after}
-use Rattle.js_reading.specs.Reading.{Found, same_line, sees, joined}
-use Rattle.js_reading.proofs.TokensThere.{Seen, see_sign, see_word, on_line}
-use Rattle.js_reading.proofs.Opens.{begins, Opens, stands_opens}
-use Rattle.js_reading.proofs.Climbs.{whole, IsRead}
-use Rattle.js_reading.proofs.Operations.{SeenOperator, see_operator, operator_utf8, exponentiation_read, conjunction_read, disjunction_read, coalescing_read, binary_read, conditional_read}
+use Rattle.js_syntax.specs.Tokens.{word, private_name, sign}
+use Rattle.js_syntax.specs.Edges.{full, edge, is_unary, is_update, is_simple_target, is_private_member, is_coalesce_left, member_level, binary_level}
+use Rattle.js_syntax.specs.Spelling.{Stands, BareNew}
+use Rattle.js_tokens.specs.Next.{lexeme}
+use Rattle.js_reading.specs.Reading.{same_line}
+use Rattle.js_reading.proofs.TokensThere.{Seen}
+use Rattle.js_reading.proofs.Opens.{begins, stands_opens, bare_new_opens}
+use Rattle.js_reading.proofs.Operations.{SeenOperator, exponentiation_read, conjunction_read, disjunction_read, coalescing_read, binary_read, conditional_read}
 use Rattle.js_reading.proofs.Prefixes.{unary_read, await_read, update_before_read, update_behind_read, private_in_read, bare_yield_read, yielding_read, delegating_read}
-use Rattle.js_reading.proofs.Listings.{StandsRead, stands, IsReadExpression, FoundGroup, item_of}
-use Rattle.js_reading.proofs.Links.{LinkRead, ArgumentsRead, link_signs, dot_read, bracket_read, SpineRead, first_link_read, next_link_read, chain_read, call_link_read, chain_call}
-use Rattle.js_reading.proofs.Calls.{CallRead, call_arguments, AsyncToken, call_read, construction_read, BareRead, super_dot_read, super_bracket_read, super_call_read, OptionsRead, import_call_read}
-use Rattle.js_reading.proofs.Grouped.{ParenList, IsReadTemplate, template_read, tagged_read, function_expression_read, class_expression_read}
+use Rattle.js_reading.proofs.Listings.{StandsRead, stands, FoundGroup, item_of}
+use Rattle.js_reading.proofs.Links.{LinkRead, link_signs, dot_read, bracket_read, SpineRead, first_link_read, next_link_read, chain_read, call_link_read, chain_call}
+use Rattle.js_reading.proofs.Calls.{CallRead, call_arguments, call_read, construction_read, super_dot_read, super_bracket_read, super_call_read, OptionsRead, import_call_read}
+use Rattle.js_reading.proofs.Grouped.{IsReadTemplate, template_read, tagged_read, function_expression_read, class_expression_read}
 use Rattle.js_reading.proofs.Arrows.{TargetRead, assignment_read, ArrowBodyRead, HeadRead, arrow_read}
 use Rattle.js_reading.proofs.Claims.{IsReadFunction, IsReadClass}
 use Rattle.js_reading.proofs.Shapes.{Shape, stands_shape}
@@ -152,3 +150,6 @@ stands_starts s u = let x = stands_opens s u in x.starts
 
 pub no_spread : {i : Bool} {n : ℕ} {e : Term} {a b : Text} → Stands i n e a b → is_node Kind.SpreadElement e ≡ false
 no_spread s = let x = stands_shape s in x.no_spread
+
+pub bare_starts : {i : Bool} {e : Term} {a b : Text} → BareNew i e a b → IsUtf8 a → begins (lexeme a) ≡ true
+bare_starts s u = let x = bare_new_opens s u in x.starts

@@ -1,21 +1,18 @@
 -- What may follow an expression, and takes none of it.
-use Rattle.std.proofs.Common.{◌≡◌, ◌≤◌, ◌<◌, ℕ, zero, suc, Bool, true, false, not, ◌&&◌, ◌||◌, if◌then◌else◌, nat_le, nat_eq, List, [], ◌∷◌, ◌++◌, length, Option, Some, None, refl, sym, subst, ◌∙◌, ap, arith, codes}
+use Rattle.std.proofs.Common.{◌≡◌, ◌≤◌, ◌<◌, ℕ, Bool, true, false, not, ◌&&◌, ◌||◌, if◌then◌else◌, nat_le, nat_eq, List, [], ◌∷◌, Option, Some, None, refl, sym, subst, arith, codes}
 use Rattle.std.specs.List.{list_all}
-use Rattle.std.proofs.lemmas.Bool.{eqb-true, false≢true, not-true, and_parts, and_from, and_left, and_right, leb-true, le-leb, lt-leb, or_cases, or_left, or_right, or_parts}
-use Rattle.js_term.specs.Term.{Text, is_text, Term}
-use Rattle.js_term.specs.Lexeme.{is_one_of, is_reserved}
-use Rattle.js_syntax.specs.Texts.{assignment_operators, update_operators}
+use Rattle.std.proofs.lemmas.Bool.{eqb-true, false≢true, not-true, and_parts, leb-true, le-leb, lt-leb, or_left, or_right}
+use Rattle.js_term.specs.Term.{Text, is_text}
+use Rattle.js_term.specs.Lexeme.{is_one_of}
 use Rattle.js_syntax.specs.Tokens.{Lexeme, word, private_name, number, big_integer, string, regexp, no_substitution, template_head, template_middle, template_tail, sign}
-use Rattle.js_syntax.specs.Edges.{Edge, full, updated, loose, exports, accessor, static, plain, is_update, is_access, access_signs, operator_signs, is_operator, level_among, member_level, goes_on_with, is_sign_among}
-use Rattle.js_syntax.specs.Spelling.{Semicolon}
-use Rattle.js_syntax.proofs.Fronts.{same_text, among}
+use Rattle.js_syntax.specs.Edges.{Edge, full, updated, loose, exports, accessor, static, plain, is_update, is_access, access_signs, level_among, member_level}
+use Rattle.js_syntax.proofs.Fronts.{among}
 use Rattle.js_tokens.specs.Next.{lexeme, after}
-use Rattle.js_reading.specs.Reading.{Found, is_sign, is_word, sees, sees_word, same_line, at_end, arrow_here, goes_on_at, left_out}
-use Rattle.js_reading.specs.Operators.{or_zero, sign_levels, sign_binds, word_binds, binds, sign_gives, gives, sign_needs, needs, suits, goes_on_by, goes_on}
+use Rattle.js_reading.specs.Reading.{Found, is_sign, is_word, sees, sees_word, same_line, at_end, arrow_here}
+use Rattle.js_reading.specs.Operators.{or_zero, sign_levels, sign_binds, word_binds, binds, sign_gives, sign_needs, suits, goes_on_by, goes_on}
 use Rattle.js_reading.specs.Expressions.{ends_operand, is_arrow_name}
-use Rattle.js_reading.proofs.TokensThere.{Seen, sees_by, sees_word_by}
-use Rattle.js_reading.proofs.TokensEnd.{Ended, by_sign, by_stop, ended, lexeme_sees}
-use Rattle.js_reading.proofs.Lists.{is_ending, is_end}
+use Rattle.js_reading.proofs.TokensThere.{Seen}
+use Rattle.js_reading.proofs.Lists.{is_end}
 
 -- ---- how tightly a text takes what stands before it
 

@@ -1,32 +1,30 @@
 -- Arrays, objects, parentheses, functions, classes and templates that stand in a text are read, as what begins an expression.
-use Rattle.std.proofs.Common.{◌≡◌, ◌≤◌, ◌<◌, ℕ, zero, suc, Bool, true, false, not, ◌&&◌, ◌||◌, if◌then◌else◌, nat_le, map, List, [], ◌∷◌, ◌++◌, length, Option, Some, None, refl, sym, subst, ◌∙◌, ap, arith, codes}
+use Rattle.std.proofs.Common.{◌≡◌, ◌≤◌, ◌<◌, ℕ, suc, Bool, true, false, ◌&&◌, List, [], ◌∷◌, length, Option, Some, None, refl, sym, subst, ◌∙◌, ap, arith, codes}
 use Rattle.std.specs.Str.{IsUtf8}
 use Rattle.std.proofs.lemmas.Bool.{false≢true}
-use Rattle.js_term.specs.Term.{Text, is_text, Term, Terms, absent, list, node, none, one, two, all, depth, depths}
+use Rattle.js_term.specs.Term.{Text, Term, all, depth, depths}
 use Rattle.js_term.specs.declared.kind.Kind.{Kind}
 use Rattle.js_term.specs.Node.{array_of, object_of, parenthesized_of, sequence_of}
-use Rattle.js_syntax.specs.Nodes.{of_part, of_parts, template_of}
+use Rattle.js_syntax.specs.Nodes.{of_parts, template_of}
 use Rattle.js_syntax.specs.Parts.{is_node}
 use Rattle.js_syntax.specs.Tokens.{Lexeme, word, private_name, number, big_integer, string, regexp, no_substitution, template_head, template_middle, template_tail, sign}
-use Rattle.js_syntax.specs.Edges.{Edge, full, edge, member_level}
+use Rattle.js_syntax.specs.Edges.{full, edge, member_level}
 use Rattle.js_syntax.specs.Spelling.{is_several}
 use Rattle.js_tokens.specs.Next.{lexeme, after}
 use Rattle.js_reading.specs.declared.goal.Goal.{Goal}
-use Rattle.js_reading.specs.declared.goal.Goal.TheVariants as goal
-use Rattle.js_reading.specs.Reading.{Found, closed, Reading, ◌>>=◌, sees, sees_word, same_line, arrow_here, expect, group, joined, trees, any_cover}
-use Rattle.js_reading.specs.Operators.{binds}
-use Rattle.js_reading.specs.Parts.{Quasis, item, element, template_by}
+use Rattle.js_reading.specs.Reading.{Found, closed, Reading, ◌>>=◌, sees, sees_word, same_line, arrow_here, joined, trees, any_cover}
+use Rattle.js_reading.specs.Parts.{template_by}
 use Rattle.js_reading.specs.Functions.{function}
 use Rattle.js_reading.specs.Literals.{is_barred, literal, array, object, property_item, class}
-use Rattle.js_reading.specs.Expressions.{at, template_tree, any_spread, parenthesized_by, parenthesized, async_by, async_expression, extended_by, extended, word_prefix, sign_prefix, prefix_by, prefix}
+use Rattle.js_reading.specs.Expressions.{at, template_tree, any_spread, parenthesized_by, parenthesized, async_by, async_expression, extended, prefix_by, prefix}
 use Rattle.js_reading.specs.Read.{read}
 use Rattle.js_reading.proofs.TokensThere.{Seen, sees_by, sees_word_by, expect_read}
 use Rattle.js_reading.proofs.Opens.{begins}
-use Rattle.js_reading.proofs.Lists.{ReadsGroup, ReadsAll, last_all, and_all, group_none, group_some, group_comma, comma_seen}
-use Rattle.js_reading.proofs.Follows.{tightness, tightness_by, broken, takes_name, holds, Ends, is_full}
-use Rattle.js_reading.proofs.Climbs.{whole, quiet, quiet_other, IsRead, first_read, first_reach, no_name, Joins, joined_read}
-use Rattle.js_reading.proofs.Leaves.{word_there, literal_there, no_arrow, leaf_read}
-use Rattle.js_reading.proofs.Listings.{StandsRead, FoundItem, FoundList, last_found, and_found, FoundGroup, item_of, element_of, stands_item}
+use Rattle.js_reading.proofs.Lists.{ReadsGroup, group_some}
+use Rattle.js_reading.proofs.Follows.{tightness, takes_name, is_full}
+use Rattle.js_reading.proofs.Climbs.{whole, quiet_other, IsRead, first_read, Joins, joined_read}
+use Rattle.js_reading.proofs.Leaves.{word_there, no_arrow}
+use Rattle.js_reading.proofs.Listings.{StandsRead, FoundList, last_found, and_found, FoundGroup, item_of, element_of, stands_item}
 use Rattle.js_reading.proofs.Links.{member_range}
 use Rattle.js_reading.proofs.Claims.{FunctionOpens, plain_function, async_function, IsReadFunction, IsReadClass}
 

@@ -1,9 +1,9 @@
 -- Names and literals that stand in a text are read.
-use Rattle.std.proofs.Common.{◌≡◌, ◌≤◌, ◌<◌, ℕ, zero, suc, Bool, true, false, not, ◌&&◌, ◌||◌, if◌then◌else◌, nat_le, List, [], ◌∷◌, length, Option, Some, None, refl, sym, subst, ◌∙◌, ap, arith, codes}
+use Rattle.std.proofs.Common.{◌≡◌, ◌<◌, ℕ, Bool, true, false, not, ◌&&◌, ◌||◌, if◌then◌else◌, nat_le, length, Option, Some, None, refl, sym, subst, ◌∙◌, ap, arith, codes}
 use Rattle.std.proofs.lemmas.Bool.{false≢true, or_parts, leb-true}
 use Rattle.js_term.specs.Term.{Text, is_text, Term, depth}
 use Rattle.js_term.specs.declared.kind.Kind.{Kind}
-use Rattle.js_term.specs.Lexeme.{is_reserved, is_one_of}
+use Rattle.js_term.specs.Lexeme.{is_reserved}
 use Rattle.js_term.specs.Node.{identifier_of, string_of, number_of, truth, boolean_of}
 use Rattle.js_syntax.specs.Nodes.{alone, of_text, regexp_of}
 use Rattle.js_syntax.specs.Tokens.{Lexeme, word, private_name, number, big_integer, string, regexp, no_substitution, template_head, template_middle, template_tail, sign}
@@ -11,13 +11,12 @@ use Rattle.js_syntax.specs.Edges.{full, edge}
 use Rattle.js_syntax.proofs.Fronts.{same_text}
 use Rattle.js_tokens.specs.Next.{lexeme, after, next_regexp}
 use Rattle.js_reading.specs.declared.goal.Goal.{Goal}
-use Rattle.js_reading.specs.declared.goal.Goal.TheVariants as goal
-use Rattle.js_reading.specs.Reading.{Found, closed, Reading, ◌>>=◌, sees, sees_word, same_line, arrow_here}
-use Rattle.js_reading.specs.Expressions.{at, regexp_by, is_arrow_name, named, async_by, async_expression, literal_word, is_word_unary, word_by, word_prefix, sign_prefix, prefix_by, prefix}
+use Rattle.js_reading.specs.Reading.{Found, closed, Reading, sees, sees_word, same_line, arrow_here}
+use Rattle.js_reading.specs.Expressions.{regexp_by, is_arrow_name, named, async_by, async_expression, word_prefix, sign_prefix, prefix_by, prefix}
 use Rattle.js_reading.specs.Read.{read}
 use Rattle.js_reading.proofs.TokensThere.{Seen, SeenRegexp, is_slash_sign}
 use Rattle.js_reading.proofs.Follows.{takes_name, either_case}
-use Rattle.js_reading.proofs.Climbs.{quiet, is_async, IsRead, first_read}
+use Rattle.js_reading.proofs.Climbs.{quiet, IsRead, first_read}
 
 -- ---- words
 

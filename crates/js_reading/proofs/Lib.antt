@@ -33,3 +33,9 @@ pub mod Grouped
 pub mod Arrows
 pub mod Shapes
 pub mod Dispatching
+pub mod Templating
+pub mod StatementStarts
+pub mod StatementsThere
+pub mod Fields
+pub mod Completing
+pub mod Endings

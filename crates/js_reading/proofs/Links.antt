@@ -1,30 +1,26 @@
 -- Members, calls and chains that stand in a text are read.
-use Rattle.std.proofs.Common.{◌≡◌, ◌≤◌, ◌<◌, ℕ, zero, suc, Bool, true, false, not, ◌&&◌, ◌||◌, if◌then◌else◌, nat_le, nat_eq, map, List, [], ◌∷◌, ◌++◌, length, Option, Some, None, refl, sym, subst, ◌⊎◌, inl, inr, ◌∙◌, ap, arith, codes}
+use Rattle.std.proofs.Common.{◌≡◌, ◌≤◌, ◌<◌, ℕ, zero, suc, Bool, true, false, not, ◌&&◌, if◌then◌else◌, nat_le, nat_eq, map, List, [], ◌∷◌, length, Option, Some, None, refl, sym, subst, ◌∙◌, ap, arith, codes}
 use Rattle.std.specs.Str.{IsUtf8}
-use Rattle.std.specs.List.{list_all}
-use Rattle.std.proofs.lemmas.Bool.{false≢true, not-true, leb-true, le-leb, lt-leb}
+use Rattle.std.proofs.lemmas.Bool.{false≢true, not-true, leb-true}
 use Rattle.std.proofs.lemmas.Bool.Decides.{nat_tests}
-use Rattle.js_term.specs.Term.{Text, is_text, Term, Terms, absent, list, node, none, one, two, all, depth, depths}
+use Rattle.js_term.specs.Term.{Text, Term, all, depth, depths}
 use Rattle.js_term.specs.declared.kind.Kind.{Kind}
-use Rattle.js_term.specs.Lexeme.{is_reserved, is_one_of}
-use Rattle.js_term.specs.Node.{identifier_of}
-use Rattle.js_syntax.specs.Nodes.{of_part, call_link, static_link, computed_link, private_link, super_of}
+use Rattle.js_term.specs.Lexeme.{is_one_of}
+use Rattle.js_syntax.specs.Nodes.{of_part, call_link, static_link, computed_link, private_link}
 use Rattle.js_syntax.specs.Tokens.{Lexeme, word, private_name, number, big_integer, string, regexp, no_substitution, template_head, template_middle, template_tail, sign}
-use Rattle.js_syntax.specs.Edges.{Edge, full, edge, is_update, member_level, is_private_member}
-use Rattle.js_syntax.proofs.Fronts.{same_text, among}
-use Rattle.js_tokens.specs.Next.{lexeme, after}
+use Rattle.js_syntax.specs.Edges.{full, edge, is_update, member_level}
+use Rattle.js_syntax.proofs.Fronts.{among}
+use Rattle.js_tokens.specs.Next.{lexeme}
 use Rattle.js_reading.specs.declared.goal.Goal.{Goal}
-use Rattle.js_reading.specs.declared.goal.Goal.TheVariants as goal
-use Rattle.js_reading.specs.Reading.{Found, closed, Reading, ◌>>=◌, sees, sees_word, same_line, arrow_here, expect, group, trees, any_cover}
+use Rattle.js_reading.specs.Reading.{Found, closed, Reading, ◌>>=◌, same_line}
 use Rattle.js_reading.specs.Operators.{sign_binds, binds}
-use Rattle.js_reading.specs.Parts.{arguments, expression, item}
-use Rattle.js_reading.specs.Expressions.{at, is_link, operator_text, dotted, computed, called, optional_link, link_by, links, chain, super_member, super_expression, sign_extended, extended, async_call, async_parenthesized, async_by, async_expression, word_prefix, prefix, climb, at_level}
+use Rattle.js_reading.specs.Parts.{arguments}
+use Rattle.js_reading.specs.Expressions.{at, is_link, dotted, computed, called, optional_link, link_by, links, chain}
 use Rattle.js_reading.specs.Read.{read}
-use Rattle.js_reading.proofs.TokensThere.{Seen, sees_by, sees_word_by, expect_read}
-use Rattle.js_reading.proofs.Lists.{is_end, ending_end, ReadsGroup}
-use Rattle.js_reading.proofs.Follows.{tightness, tightness_by, broken, takes_name, holds, Ends, is_full, either_case}
-use Rattle.js_reading.proofs.Climbs.{whole, quiet, quiet_other, is_async, IsRead, Reach, full_low, no_name, sign_joins, joined_read, lower_read, grow}
-use Rattle.js_reading.proofs.Leaves.{word_there, no_arrow, name_prefix}
+use Rattle.js_reading.proofs.TokensThere.{Seen, sees_by, expect_read}
+use Rattle.js_reading.proofs.Lists.{ending_end}
+use Rattle.js_reading.proofs.Follows.{tightness, tightness_by, broken, takes_name, holds, is_full}
+use Rattle.js_reading.proofs.Climbs.{whole, quiet, quiet_other, IsRead, full_low, sign_joins, joined_read}
 use Rattle.js_reading.proofs.Operations.{extends_sign}
 use Rattle.js_reading.proofs.Listings.{IsReadExpression, expression_before, FoundGroup, item_of}
 

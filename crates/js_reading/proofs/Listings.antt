@@ -1,25 +1,24 @@
 -- Expressions and lists of expressions are read.
-use Rattle.std.proofs.Common.{◌≡◌, ◌≤◌, ◌<◌, ℕ, zero, suc, Bool, true, false, not, ◌&&◌, ◌||◌, if◌then◌else◌, map, List, [], ◌∷◌, ◌++◌, length, Option, Some, None, refl, sym, subst, inl, inr, ◌∙◌, ap, arith, codes}
+use Rattle.std.proofs.Common.{◌≡◌, ◌≤◌, ◌<◌, ℕ, Bool, true, false, List, [], ◌∷◌, length, Some, refl, sym, inl, ◌∙◌, ap, arith, codes}
 use Rattle.std.specs.Str.{IsUtf8}
 use Rattle.std.proofs.lemmas.Bool.{false≢true}
-use Rattle.js_term.specs.Term.{Text, Term, absent, list, node, all, depth, depths}
+use Rattle.js_term.specs.Term.{Text, Term, absent, all, depth, depths}
 use Rattle.js_term.specs.declared.kind.Kind.{Kind}
 use Rattle.js_term.specs.Node.{sequence_of}
 use Rattle.js_syntax.specs.Nodes.{of_part}
-use Rattle.js_syntax.specs.Tokens.{Lexeme, sign}
-use Rattle.js_syntax.specs.Edges.{Edge, edge, edge_last, is_simple_target, last_absent}
+use Rattle.js_syntax.specs.Tokens.{sign}
+use Rattle.js_syntax.specs.Edges.{edge, edge_last, is_simple_target, last_absent}
 use Rattle.js_syntax.specs.Spelling.{is_several}
-use Rattle.js_tokens.specs.Next.{lexeme, after}
-use Rattle.js_reading.specs.declared.goal.Goal.{Goal}
+use Rattle.js_tokens.specs.Next.{lexeme}
 use Rattle.js_reading.specs.declared.goal.Goal.TheVariants as goal
-use Rattle.js_reading.specs.Reading.{Found, closed, Reading, ◌>>=◌, sees, separated, group, joined, tree_in, trees, any_cover}
-use Rattle.js_reading.specs.Parts.{settled, uncovered, spread_of, part, expression, spread, item, argument, element}
+use Rattle.js_reading.specs.Reading.{Found, closed, Reading, sees, joined, trees, any_cover}
+use Rattle.js_reading.specs.Parts.{part, expression, spread, item, argument, element}
 use Rattle.js_reading.specs.Read.{read}
 use Rattle.js_reading.proofs.TokensThere.{Seen, sees_by}
 use Rattle.js_reading.proofs.Opens.{begins, no_sign_there}
-use Rattle.js_reading.proofs.Lists.{is_closing, is_end, begins_no_closer, comma_seen, ReadsItem, some_item, hole_item, ReadsAll, last_all, and_all, ReadsGroup, group_none, group_some, group_comma}
-use Rattle.js_reading.proofs.Follows.{holds, end_holds}
-use Rattle.js_reading.proofs.Climbs.{whole, IsRead, place_found, right_read}
+use Rattle.js_reading.proofs.Lists.{is_closing, is_end, begins_no_closer, ReadsItem, some_item, hole_item, ReadsAll, last_all, and_all, ReadsGroup, group_none, group_some, group_comma}
+use Rattle.js_reading.proofs.Follows.{holds, end_holds, Ends}
+use Rattle.js_reading.proofs.Climbs.{whole, IsRead, place_found, right_read, ends_low}
 
 -- What stands as an expression is read, and UTF-8 is left.
 pub record StandsRead (i : Bool) (n : ℕ) (e : Term) (a b : Text) : Type 0 where
@@ -38,6 +37,7 @@ pub record ExpressionsRead (i : Bool) (es : List Term) (a b : Text) : Type 0 whe
   pub utf8 : IsUtf8 b
   pub shorter : length b < length a
   pub some : (e : Term) → edge_last (all (e ∷ es)) ≡ edge_last (all es)
+  pub ends : Ends 2 (edge_last (all es))
   pub deep : 0 < depths (all es)
   pub reads : (limit : ℕ) → depths (all es) ≤ limit → ReadsAll false (holds i (edge_last (all es)) 1 b) (part (read limit) (goal.Expression 2 i)) es a b
 
@@ -49,6 +49,7 @@ last_expression x starts = let r = x.read in record {
   utf8 = x.utf8;
   shorter = r.shorter;
   some = λ e. refl;
+  ends = ends_low r.ends;
   deep = let h = r.deep in omega arith;
   reads = λ limit fits. last_all (part_item r starts limit (omega arith));
 }
@@ -58,6 +59,7 @@ and_expression {i} {e = e} {es = es} {d = d} x starts tok rest = let r = x.read 
   utf8 = rest.utf8;
   shorter = let s1 = r.shorter in let s2 = tok.shorter in let s3 = rest.shorter in omega arith;
   some = λ e. refl;
+  ends = rw (rest.some e) rest.ends;
   deep = let h = r.deep in omega arith;
   reads = λ limit fits. rw (rest.some e) (and_all (part_item r starts limit (omega arith)) tok (rest.reads limit (omega arith)));
 }
@@ -66,6 +68,7 @@ pub record IsReadExpression (i : Bool) (e : Term) (a b : Text) : Type 0 where
   pub utf8 : IsUtf8 b
   pub shorter : length b < length a
   pub deep : 0 < depth e
+  pub ends : Ends 2 (edge e)
   pub reads : (limit : ℕ) → depth e ≤ limit → holds i (edge e) 1 b ≡ true → sees (codes ",") b ≡ false → expression (read limit) i a ≡ Some (e, b)
 
 expression_reads : (i ok : Bool) {es : List Term} {a b : Text} (limit : ℕ) → ReadsAll false ok (part (read limit) (goal.Expression 2 i)) es a b → ok ≡ true → sees (codes ",") b ≡ false → expression (read limit) i a ≡ Some (joined es, b)
@@ -77,6 +80,7 @@ single_read {i} {e = e} {b = b} x starts = let l = last_expression x starts in l
   utf8 = x.utf8;
   shorter = r.shorter;
   deep = r.deep;
+  ends = ends_low r.ends;
   reads = λ limit fits h h'. expression_reads i (holds i (edge e) 1 b) limit (l.reads limit (omega arith)) h h';
 }
 
@@ -87,6 +91,7 @@ sequence_read {i} {es = e ∷ f ∷ es} {b = b} h x = record {
   utf8 = x.utf8;
   shorter = x.shorter;
   deep = omega arith;
+  ends = x.ends;
   reads = λ limit fits h h'. expression_reads i (holds i (edge_last (all (e ∷ f ∷ es))) 1 b) limit (x.reads limit (omega arith)) h h';
 }
 

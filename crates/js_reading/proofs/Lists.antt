@@ -1,12 +1,12 @@
 -- Lists that stand in a text are read.
-use Rattle.std.proofs.Common.{◌≡◌, ◌≤◌, ◌<◌, ℕ, zero, suc, Bool, true, false, not, ◌&&◌, ◌||◌, if◌then◌else◌, List, [], ◌∷◌, ◌++◌, length, Option, Some, None, refl, sym, subst, ◌∙◌, ap, append_assoc, arith, codes}
+use Rattle.std.proofs.Common.{◌≡◌, ◌≤◌, ◌<◌, ℕ, zero, suc, Bool, true, false, not, List, [], ◌∷◌, ◌++◌, length, Option, Some, None, refl, sym, ◌∙◌, ap, append_assoc, arith, codes}
 use Rattle.std.proofs.lemmas.Bool.{false≢true, not-true}
 use Rattle.js_term.specs.Term.{Text, is_text}
 use Rattle.js_term.specs.Lexeme.{is_one_of}
 use Rattle.js_syntax.specs.Tokens.{Lexeme, word, private_name, number, big_integer, string, regexp, no_substitution, template_head, template_middle, template_tail, sign}
 use Rattle.js_syntax.proofs.Fronts.{same_text, among}
-use Rattle.js_tokens.specs.Next.{lexeme, after}
-use Rattle.js_reading.specs.Reading.{Reading, ◌>>=◌, is_sign, sees, separated, items, group}
+use Rattle.js_tokens.specs.Next.{lexeme}
+use Rattle.js_reading.specs.Reading.{Reading, is_sign, sees, separated, items, group}
 use Rattle.js_reading.proofs.TokensThere.{Seen, sees_by}
 use Rattle.js_reading.proofs.Opens.{begins, begins_by}
 
@@ -25,6 +25,14 @@ is_ending s = is_one_of s (codes ")" ∷ codes "]" ∷ codes "}" ∷ codes "," �
 abbrev pub is_end : Option Lexeme → Bool
 is_end (Some (sign s)) = is_ending s
 is_end o = false
+
+-- what stands behind an item of a literal
+abbrev pub is_separating : Text → Bool
+is_separating s = is_one_of s (codes ")" ∷ codes "]" ∷ codes "}" ∷ codes "," ∷ [])
+
+abbrev pub separates : Option Lexeme → Bool
+separates (Some (sign s)) = is_separating s
+separates o = false
 
 -- the sign that is seen
 pub seen_sign : (s : Text) (o : Option Lexeme) → is_sign s o ≡ true → o ≡ Some (sign s)
@@ -53,6 +61,26 @@ closer_end s a h e = ap is_end (sees_sign s a e) ∙ closer_ends s h
 
 pub ending_end : (s a : Text) → is_ending s ≡ true → sees s a ≡ true → is_end (lexeme a) ≡ true
 ending_end s a h e = ap is_end (sees_sign s a e) ∙ h
+
+pub separates_end : (o : Option Lexeme) → separates o ≡ true → is_end o ≡ true
+separates_end None h = absurd (false≢true h)
+separates_end (Some (sign s)) h = among is_ending (codes ")" ∷ codes "]" ∷ codes "}" ∷ codes "," ∷ []) s refl h
+separates_end (Some (word x)) h = absurd (false≢true h)
+separates_end (Some (private_name x)) h = absurd (false≢true h)
+separates_end (Some (number x)) h = absurd (false≢true h)
+separates_end (Some (big_integer x)) h = absurd (false≢true h)
+separates_end (Some (string x v)) h = absurd (false≢true h)
+separates_end (Some (regexp x v)) h = absurd (false≢true h)
+separates_end (Some (no_substitution x)) h = absurd (false≢true h)
+separates_end (Some (template_head x)) h = absurd (false≢true h)
+separates_end (Some (template_middle x)) h = absurd (false≢true h)
+separates_end (Some (template_tail x)) h = absurd (false≢true h)
+
+closer_separates : (s a : Text) → is_closer s ≡ true → sees s a ≡ true → separates (lexeme a) ≡ true
+closer_separates s a h e = ap separates (sees_sign s a e) ∙ among is_separating (codes ")" ∷ codes "]" ∷ codes "}" ∷ []) s refl h
+
+comma_separates : (a : Text) → sees (codes ",") a ≡ true → separates (lexeme a) ≡ true
+comma_separates a e = ap separates (sees_sign (codes ",") a e)
 
 -- a sign that is none of those
 sign_apart : (p : Text → Bool) (s : Text) (o : Option Lexeme) (q : Option Lexeme → Bool) → ((t : Text) → q (Some (sign t)) ≡ p t) → q o ≡ false → p s ≡ true → is_sign s o ≡ false
@@ -109,20 +137,23 @@ pub record ReadsItem {A : Type 0} (hole ok : Bool) (item : Text → Reading A) (
   pub starts : hole ≡ false → is_closing (lexeme a) ≡ false
   pub begun : sees (codes ",") b ≡ true → is_closing (lexeme a) ≡ false
   pub comma : sees (codes ",") b ≡ true → item a ≡ Some (x, b)
-  pub ended : hole ≡ false → is_end (lexeme b) ≡ true → item a ≡ Some (x, b)
+  pub ended : hole ≡ false → separates (lexeme b) ≡ true → item a ≡ Some (x, b)
   pub reads : ok ≡ true → item a ≡ Some (x, b)
 
 -- one that is no hole
-pub some_item : {A : Type 0} {item : Text → Reading A} {x : A} {a b : Text} (ok : Bool) → length b < length a → is_closing (lexeme a) ≡ false → (is_end (lexeme b) ≡ true → item a ≡ Some (x, b)) → (ok ≡ true → item a ≡ Some (x, b)) → ReadsItem false ok item x a b
-some_item {b = b} ok shorter starts ended reads = record {
+pub separate_item : {A : Type 0} {item : Text → Reading A} {x : A} {a b : Text} (ok : Bool) → length b < length a → is_closing (lexeme a) ≡ false → (separates (lexeme b) ≡ true → item a ≡ Some (x, b)) → (ok ≡ true → item a ≡ Some (x, b)) → ReadsItem false ok item x a b
+separate_item {b = b} ok shorter starts ended reads = record {
   short = omega arith;
   shorter = λ h. shorter;
   starts = λ h. starts;
   begun = λ h. starts;
-  comma = λ h. ended (ending_end (codes ",") b refl h);
+  comma = λ h. ended (comma_separates b h);
   ended = λ h e. ended e;
   reads = λ h. reads h;
 }
+
+pub some_item : {A : Type 0} {item : Text → Reading A} {x : A} {a b : Text} (ok : Bool) → length b < length a → is_closing (lexeme a) ≡ false → (is_end (lexeme b) ≡ true → item a ≡ Some (x, b)) → (ok ≡ true → item a ≡ Some (x, b)) → ReadsItem false ok item x a b
+some_item {b = b} ok shorter starts ended reads = separate_item ok shorter starts (λ h. ended (separates_end (lexeme b) h)) reads
 
 -- nothing, before a comma
 pub hole_item : {A : Type 0} {item : Text → Reading A} {x : A} {a : Text} → (sees (codes ",") a ≡ true → item a ≡ Some (x, a)) → ReadsItem true false item x a a
@@ -152,7 +183,7 @@ last_separated r (suc n) found enough whole yes' h = rw (r.reads yes', h)
 last_plain : {A : Type 0} {hole ok : Bool} {item : Text → Reading A} {x : A} {a b : Text} → ReadsItem hole ok item x a b → (close : Text) (n : ℕ) (found : List A) → is_closer close ≡ true → hole ≡ false → length a ≤ n → sees close b ≡ true → items item close n found a ≡ Some ((found ++ x ∷ [], false), b)
 unfolding items
 last_plain r close zero found closer whole enough h = absurd (let s = r.shorter whole in omega arith)
-last_plain {b = b} r close (suc n) found closer whole enough h = rw (r.ended whole (closer_end close b closer h), closer_no_comma close b closer h)
+last_plain {b = b} r close (suc n) found closer whole enough h = rw (r.ended whole (closer_separates close b closer h), closer_no_comma close b closer h)
 
 last_comma : {A : Type 0} {hole ok : Bool} {item : Text → Reading A} {x : A} {a b c : Text} → ReadsItem hole ok item x a b → (close : Text) (n : ℕ) (found : List A) → length a ≤ n → Seen (sign (codes ",")) b c → sees close c ≡ true → items item close n found a ≡ Some ((found ++ x ∷ [], true), c)
 unfolding items

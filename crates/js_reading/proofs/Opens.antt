@@ -1,8 +1,7 @@
 -- How the text of an expression begins.
 use Rattle.std.proofs.Common.{◌≡◌, ℕ, Bool, true, false, not, ◌&&◌, ◌||◌, List, [], ◌∷◌, Option, Some, None, refl, sym, ◌∙◌, ap, map, codes}
 use Rattle.std.specs.Str.{IsUtf8}
-use Rattle.std.specs.List.{list_all}
-use Rattle.std.proofs.lemmas.Bool.{false≢true, or_left, or_right, or_from, or_parts, not-true}
+use Rattle.std.proofs.lemmas.Bool.{false≢true, or_left, or_right, or_from, not-true}
 use Rattle.js_term.specs.Term.{Text, is_text, Term, node, none, all}
 use Rattle.js_term.specs.declared.kind.Kind.{Kind}
 use Rattle.js_term.specs.Lexeme.{is_reserved, is_one_of}
@@ -17,7 +16,7 @@ use Rattle.js_tokens.specs.Looks.{is_div_lexeme}
 use Rattle.js_tokens.specs.Next.{lexeme, after}
 use Rattle.js_reading.specs.Reading.{is_sign, is_word, sees, sees_word, same_line}
 use Rattle.js_reading.specs.Statements.{begins_async_function}
-use Rattle.js_reading.proofs.TokensThere.{Seen, see, see_sign, see_word, sees_by, sees_word_by, on_line, slash_there, is_slash_sign}
+use Rattle.js_reading.proofs.TokensThere.{Seen, see, see_word, sees_by, sees_word_by, on_line, slash_there, is_slash_sign}
 
 -- words that are reserved and begin an expression
 abbrev pub expression_words : List Text
@@ -191,7 +190,7 @@ boolean_opens : (v : Bool) {a b : Text} → Word (truth v) a b → IsUtf8 a → 
 boolean_opens true tok u = leaf tok u refl refl refl refl
 boolean_opens false tok u = leaf tok u refl refl refl refl
 
-bare_new_opens : {i : Bool} {e : Term} {a b : Text} → BareNew i e a b → IsUtf8 a → Opens e a
+pub bare_new_opens : {i : Bool} {e : Term} {a b : Text} → BareNew i e a b → IsUtf8 a → Opens e a
 bare_new_opens (spell.new_member tok h s) u = leaf tok u refl refl refl refl
 bare_new_opens (spell.new_new tok s) u = leaf tok u refl refl refl refl
 

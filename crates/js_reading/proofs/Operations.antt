@@ -1,32 +1,27 @@
 -- Operators that stand in a text are read.
-use Rattle.std.proofs.Common.{◌≡◌, ◌≤◌, ◌<◌, ℕ, zero, suc, Bool, true, false, not, ◌&&◌, ◌||◌, if◌then◌else◌, nat_le, nat_eq, map, List, [], ◌∷◌, length, Option, Some, None, refl, sym, subst, ◌∙◌, ap, arith, codes}
+use Rattle.std.proofs.Common.{◌≡◌, ◌≤◌, ◌<◌, ℕ, suc, Bool, true, false, not, ◌&&◌, ◌||◌, if◌then◌else◌, nat_le, nat_eq, [], ◌∷◌, length, Some, refl, sym, subst, ◌∙◌, ap, arith, codes}
 use Rattle.std.specs.Str.{IsUtf8}
 use Rattle.std.specs.List.{list_all}
-use Rattle.std.proofs.lemmas.Bool.{false≢true, not-true, eqb-true, leb-true, or_left, or_right}
-use Rattle.js_term.specs.Term.{Text, is_text, Term, absent, node, one, two, depth}
+use Rattle.std.proofs.lemmas.Bool.{false≢true, not-true, eqb-true, leb-true}
+use Rattle.js_term.specs.Term.{Text, is_text, Term, node, two, depth}
 use Rattle.js_term.specs.declared.kind.Kind.{Kind}
 use Rattle.js_term.specs.Lexeme.{is_reserved, is_one_of}
-use Rattle.js_term.specs.Node.{await_of}
-use Rattle.js_syntax.specs.Nodes.{marked, of_parts, three, private_of, update_of}
-use Rattle.js_syntax.specs.Texts.{assignment_operators, logical_operators, unary_operators, update_operators}
-use Rattle.js_syntax.specs.Tokens.{Lexeme, word, private_name, sign, signs, Lexed, is_punctuator, Token, Sign}
-use Rattle.js_syntax.specs.Edges.{Edge, full, loose, edge, is_unary, is_update, is_word_operator, is_coalesce_left, is_simple_target, member_level, operator_levels, binary_level, level_among}
+use Rattle.js_syntax.specs.Nodes.{marked, three}
+use Rattle.js_syntax.specs.Texts.{assignment_operators, logical_operators}
+use Rattle.js_syntax.specs.Tokens.{word, sign, signs, Lexed, is_punctuator, Sign}
+use Rattle.js_syntax.specs.Edges.{edge, is_update, is_word_operator, is_coalesce_left, member_level, operator_levels, binary_level}
 use Rattle.js_syntax.specs.Spelling as spell
-use Rattle.js_syntax.proofs.Fronts.{same_text, among}
-use Rattle.js_tokens.specs.Next.{lexeme, after}
+use Rattle.js_syntax.proofs.Fronts.{among}
+use Rattle.js_tokens.specs.Next.{lexeme}
 use Rattle.js_reading.specs.declared.goal.Goal.{Goal}
-use Rattle.js_reading.specs.declared.goal.Goal.TheVariants as goal
-use Rattle.js_reading.specs.Reading.{Found, closed, Reading, ◌>>=◌, sees, sees_word, same_line, at_end, arrow_here, expect, expect_word}
-use Rattle.js_reading.specs.Operators.{sign_levels, sign_binds, word_binds, binds, sign_gives, gives, sign_needs, needs, suits}
-use Rattle.js_reading.specs.Parts.{part}
-use Rattle.js_reading.specs.Expressions.{at, ends_operand, operated, binary_by, updated, operator_by, sign_extended, extended_by, extended, conditional, unary, await_expression, yield_expression, update_before, private_in, word_prefix, sign_prefix, prefix_by, prefix, is_word_unary}
+use Rattle.js_reading.specs.Reading.{Found, closed, Reading, sees, sees_word, same_line, arrow_here}
+use Rattle.js_reading.specs.Operators.{sign_binds, word_binds, sign_gives, sign_needs}
+use Rattle.js_reading.specs.Expressions.{operated, binary_by, sign_extended, extended, conditional}
 use Rattle.js_reading.specs.Read.{read}
-use Rattle.js_reading.proofs.TokensThere.{Seen, see, sees_by, sees_word_by, expect_read, expect_word_read}
-use Rattle.js_reading.proofs.Opens.{begins, no_sign_there}
-use Rattle.js_reading.proofs.Lists.{is_end, ending_end}
-use Rattle.js_reading.proofs.Follows.{tightness, takes_name, holds, Ends, is_full, is_updated, is_loose, end_holds, by_level, either_case, sign_takes}
-use Rattle.js_reading.proofs.Climbs.{whole, quiet, quiet_other, IsRead, place_read, right_read, Joins, sign_joins, joined_read, lower_read, ends_right}
-use Rattle.js_reading.proofs.Leaves.{word_there}
+use Rattle.js_reading.proofs.TokensThere.{Seen, see, sees_by, expect_read}
+use Rattle.js_reading.proofs.Lists.{ending_end}
+use Rattle.js_reading.proofs.Follows.{tightness, takes_name, holds, end_holds, by_level, either_case}
+use Rattle.js_reading.proofs.Climbs.{whole, quiet_other, IsRead, place_read, right_read, Joins, sign_joins, joined_read, ends_right}
 
 -- ---- operators
 

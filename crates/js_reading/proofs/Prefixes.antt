@@ -1,28 +1,26 @@
 -- Expressions that begin with an operator, and updates, are read.
-use Rattle.std.proofs.Common.{◌≡◌, ◌≤◌, ◌<◌, ℕ, zero, suc, Bool, true, false, not, ◌&&◌, ◌||◌, if◌then◌else◌, nat_le, nat_eq, map, List, [], ◌∷◌, length, Option, Some, None, refl, sym, subst, ◌∙◌, ap, arith, codes}
-use Rattle.std.proofs.lemmas.Bool.{false≢true, not-true, eqb-true, le-leb}
-use Rattle.js_term.specs.Term.{Text, is_text, Term, absent, node, one, two, depth}
+use Rattle.std.proofs.Common.{◌≡◌, ◌≤◌, ℕ, Bool, true, false, not, ◌||◌, if◌then◌else◌, nat_eq, [], ◌∷◌, Some, refl, sym, subst, ◌∙◌, ap, arith, codes}
+use Rattle.std.proofs.lemmas.Bool.{false≢true, not-true, eqb-true}
+use Rattle.js_term.specs.Term.{Text, is_text, Term, absent, one, depth}
 use Rattle.js_term.specs.declared.kind.Kind.{Kind}
-use Rattle.js_term.specs.Lexeme.{is_reserved, is_one_of}
+use Rattle.js_term.specs.Lexeme.{is_one_of}
 use Rattle.js_term.specs.Node.{await_of}
 use Rattle.js_syntax.specs.Nodes.{marked, of_parts, private_of, update_of}
 use Rattle.js_syntax.specs.Texts.{assignment_operators, unary_operators, update_operators}
-use Rattle.js_syntax.specs.Tokens.{Lexeme, word, private_name, sign, signs}
-use Rattle.js_syntax.specs.Edges.{Edge, full, loose, edge, is_unary, is_update, is_word_operator, is_simple_target, member_level}
+use Rattle.js_syntax.specs.Tokens.{word, private_name, sign}
+use Rattle.js_syntax.specs.Edges.{loose, edge, is_unary, is_update, is_word_operator, is_simple_target, member_level}
 use Rattle.js_syntax.proofs.Fronts.{same_text, among}
 use Rattle.js_tokens.specs.Next.{lexeme, after}
 use Rattle.js_reading.specs.declared.goal.Goal.{Goal}
-use Rattle.js_reading.specs.declared.goal.Goal.TheVariants as goal
-use Rattle.js_reading.specs.Reading.{Found, closed, Reading, ◌>>=◌, sees, sees_word, same_line, at_end, arrow_here, expect_word}
-use Rattle.js_reading.specs.Operators.{sign_binds, binds, sign_gives, sign_needs, suits}
-use Rattle.js_reading.specs.Parts.{part}
-use Rattle.js_reading.specs.Expressions.{ends_operand, updated, operator_by, sign_extended, extended, unary, await_expression, yield_expression, update_before, private_in, word_prefix, sign_prefix, prefix_by, prefix}
+use Rattle.js_reading.specs.Reading.{Found, closed, Reading, sees, same_line, at_end}
+use Rattle.js_reading.specs.Operators.{sign_binds, sign_gives, sign_needs, suits}
+use Rattle.js_reading.specs.Expressions.{ends_operand, sign_extended, unary, await_expression, yield_expression, update_before, private_in, word_prefix, sign_prefix, prefix}
 use Rattle.js_reading.specs.Read.{read}
-use Rattle.js_reading.proofs.TokensThere.{Seen, sees_by, sees_word_by, expect_word_read}
+use Rattle.js_reading.proofs.TokensThere.{Seen, sees_by, expect_word_read}
 use Rattle.js_reading.proofs.TokensEnd.{seen_not_end, not_at_end}
-use Rattle.js_reading.proofs.Opens.{begins, begins_by, no_sign_there}
-use Rattle.js_reading.proofs.Follows.{tightness, takes_name, holds, Ends, is_full, is_updated, is_loose, either_case, sign_takes}
-use Rattle.js_reading.proofs.Climbs.{whole, quiet, quiet_other, IsRead, place_read, right_read, Joins, joined_read, lower_read, ends_right, ends_low}
+use Rattle.js_reading.proofs.Opens.{begins, no_sign_there}
+use Rattle.js_reading.proofs.Follows.{tightness, holds, is_updated, is_loose, either_case, sign_takes}
+use Rattle.js_reading.proofs.Climbs.{whole, quiet_other, IsRead, place_read, right_read, Joins, joined_read, lower_read, ends_right, ends_low}
 use Rattle.js_reading.proofs.Leaves.{word_there, literal_there}
 use Rattle.js_reading.proofs.Operations.{SeenOperator, by_word, by_sign, extends_sign, operator_shorter}
 

@@ -1,19 +1,18 @@
 -- A semicolon that stands in a text, or may be left out there, is read.
-use Rattle.std.proofs.Common.{◌≡◌, ◌≤◌, ◌<◌, ℕ, Bool, true, false, not, ◌&&◌, ◌||◌, if◌then◌else◌, List, [], ◌∷◌, length, Option, Some, None, refl, sym, ◌∙◌, ap, arith, codes}
+use Rattle.std.proofs.Common.{◌≡◌, ◌≤◌, Bool, true, false, not, ◌||◌, [], ◌∷◌, length, Option, Some, None, refl, sym, ◌∙◌, ap, arith, codes}
 use Rattle.std.specs.Str.{IsUtf8}
 use Rattle.std.specs.List.{list_all}
-use Rattle.std.proofs.lemmas.Bool.{false≢true, or_right, or_left, not-true}
+use Rattle.std.proofs.lemmas.Bool.{false≢true, not-true}
 use Rattle.js_term.specs.Term.{Text, is_text}
-use Rattle.js_term.specs.Lexeme.{is_one_of}
-use Rattle.js_syntax.specs.Tokens.{Lexeme, word, private_name, number, big_integer, string, regexp, no_substitution, template_head, template_middle, template_tail, sign, Lexed, Front, Token, AtEnd}
+use Rattle.js_syntax.specs.Tokens.{Lexeme, word, private_name, number, big_integer, string, regexp, no_substitution, template_head, template_middle, template_tail, sign, Front, Token, AtEnd}
 use Rattle.js_syntax.specs.Edges.{Edge, full, updated, loose, exports, accessor, static, plain, is_sign_among, goes_on_with}
 use Rattle.js_syntax.specs.Spelling as spell
 use Rattle.js_syntax.specs.Spelling.{Semicolon, DoEnd}
 use Rattle.js_syntax.proofs.Fronts.{among}
 use Rattle.js_tokens.specs.Gaps.{Behind, gap, is_same_line, is_at_end}
-use Rattle.js_tokens.specs.Next.{lexeme, after, lexeme_in, cut, cut_behind, next}
+use Rattle.js_tokens.specs.Next.{lexeme, lexeme_in, cut, cut_behind, next}
 use Rattle.js_tokens.proofs.GapLaws.{front_there}
-use Rattle.js_reading.specs.Reading.{Reading, is_sign, sees, same_line, at_end, goes_on_at, left_out, semicolon, do_end_by, do_end}
+use Rattle.js_reading.specs.Reading.{is_sign, sees, same_line, at_end, goes_on_at, left_out, semicolon, do_end_by, do_end}
 use Rattle.js_reading.proofs.Opens.{begins}
 use Rattle.js_reading.proofs.TokensThere.{Seen, see, see_sign, sees_by, at_its_end, slash_there, is_slash_sign, tail_there}
 

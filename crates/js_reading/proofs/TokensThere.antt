@@ -1,20 +1,19 @@
 -- Tokens that stand in a text are read.
-use Rattle.std.proofs.Common.{◌≡◌, ◌<◌, ◌≤◌, ℕ, Bool, true, false, not, ◌&&◌, ◌||◌, if◌then◌else◌, List, [], ◌∷◌, ◌++◌, length, Option, Some, None, refl, sym, subst, ◌∙◌, ap, arith, codes}
+use Rattle.std.proofs.Common.{◌≡◌, ◌<◌, Bool, true, false, [], ◌∷◌, length, Option, Some, refl, ◌∙◌, ap, codes}
 use Rattle.std.specs.Str.{IsUtf8}
 use Rattle.std.proofs.lemmas.Bool.{false≢true, eq-eqb}
 use Rattle.js_term.specs.Term.{Text, is_text}
 use Rattle.js_term.specs.Lexeme.{is_reserved, is_one_of}
-use Rattle.js_syntax.specs.Lexical.{begins, is_regexp_body}
+use Rattle.js_syntax.specs.Lexical.{begins}
 use Rattle.js_syntax.specs.Tokens.{Lexeme, word, private_name, number, big_integer, string, regexp, no_substitution, template_head, template_middle, template_tail, sign, Lexed, is_private_name, is_number, is_bigint, is_string, is_regexp, is_no_substitution, is_head, is_middle, is_tail, is_punctuator, Front, Token, Word, Sign, SameLine, AtEnd}
 use Rattle.js_syntax.specs.Tokens as token
-use Rattle.js_tokens.specs.Gaps.{gap, is_same_line}
 use Rattle.js_tokens.specs.Looks.{is_div_lexeme, is_regexp_lexeme, is_tail_lexeme}
-use Rattle.js_tokens.specs.Next.{Cut, cut, cut_behind, next, next_regexp, next_tail, lexeme, after, lexeme_in, rest_in, punctuator_cut}
+use Rattle.js_tokens.specs.Next.{cut, cut_behind, next, next_regexp, next_tail, lexeme, after, lexeme_in, rest_in, punctuator_cut}
 use Rattle.js_tokens.proofs.TokenLaws.{token_there}
 use Rattle.js_tokens.proofs.GoalLaws.{regexp_token_there, tail_token_there}
 use Rattle.js_tokens.proofs.Shorter.{token_shorter}
 use Rattle.js_tokens.proofs.GapLaws.{front_there, same_line_there, at_end_there}
-use Rattle.js_reading.specs.Reading.{Reading, ◌>>=◌, is_sign, is_word, sees, sees_word, same_line, at_end, expect, expect_word, name, unreserved, binding, string_token}
+use Rattle.js_reading.specs.Reading.{is_sign, is_word, sees, sees_word, same_line, at_end, expect, expect_word, name, binding, string_token}
 use Rattle.js_reading.proofs.Utf8.{next_utf8, regexp_utf8, tail_utf8}
 
 -- The token at the front, and what it leaves.

@@ -1,0 +1,313 @@
+-- Statements that stand in a text are read, from what is read of their parts.
+use Rattle.std.proofs.Common.{◌≡◌, ◌≤◌, ◌<◌, ℕ, zero, suc, Bool, true, false, not, ◌&&◌, ◌||◌, if◌then◌else◌, List, [], ◌∷◌, ◌++◌, length, Option, Some, None, refl, sym, subst, ◌∙◌, ap, append_assoc, append-nil, arith, codes}
+use Rattle.std.specs.Str.{IsUtf8}
+use Rattle.std.proofs.lemmas.Bool.{false≢true, not-true}
+use Rattle.js_term.specs.Term.{Text, is_text, Term, absent, list, node, none, all, one, two, depth, depths}
+use Rattle.js_term.specs.declared.kind.Kind.{Kind}
+use Rattle.js_term.specs.Lexeme.{is_reserved}
+use Rattle.js_term.specs.Node.{statement_of, return_of}
+use Rattle.js_syntax.specs.Nodes.{alone, of_part, of_parts, block_of, label_of, if_of}
+use Rattle.js_syntax.specs.Printable.{ends_open}
+use Rattle.js_syntax.specs.Tokens.{Lexeme, word, sign}
+use Rattle.js_syntax.specs.Edges.{plain, edge, is_body}
+use Rattle.js_syntax.specs.Spelling.{Semicolon, DoEnd}
+use Rattle.js_tokens.specs.Next.{lexeme, after}
+use Rattle.js_reading.specs.declared.goal.Goal.{Goal}
+use Rattle.js_reading.specs.declared.goal.Goal.TheVariants as goal
+use Rattle.js_reading.specs.Reading.{Found, closed, Reading, ◌>>=◌, sees, sees_word, same_line, expect, semicolon, left_out}
+use Rattle.js_reading.specs.Parts.{expression}
+use Rattle.js_reading.specs.Functions.{statements, enclosed}
+use Rattle.js_reading.specs.Expressions.{at}
+use Rattle.js_reading.specs.Statements.{inner, embedded, condition, block, ended, effect, return_statement, throw_statement, ends_here, alternate, if_statement, while_statement, do_statement, word_statement, statement_by, statement, label, jump}
+use Rattle.js_reading.specs.Read.{read}
+use Rattle.js_reading.proofs.TokensThere.{Seen, see_sign, sees_by, sees_word_by, expect_read, expect_word_read, binding_read}
+use Rattle.js_reading.proofs.TokensEnd.{semicolon_read, semicolon_utf8, semicolon_short, ended as ended_at, Ended, by_sign, by_stop, do_end_read, do_end_utf8, do_end_short}
+use Rattle.js_tokens.proofs.Shorter.{token_shorter}
+use Rattle.js_reading.proofs.Each.{seen}
+use Rattle.js_reading.proofs.Lists.{is_end, ending_end, sees_sign}
+use Rattle.js_reading.proofs.Listings.{IsReadExpression, expression_before}
+use Rattle.js_reading.proofs.Follows.{Ends}
+use Rattle.js_reading.proofs.Claims.{IsReadStatements}
+use Rattle.js_reading.proofs.Endings.{ended_holds, ended_comma}
+use Rattle.js_reading.proofs.Opens.{begins, no_sign_there}
+use Rattle.js_reading.proofs.StatementStarts.{starts, begins_starts, starts_no_end, starts_no_sign, starts_no_word, Follows, starts_follow, token_follows, IsReadStatement}
+
+-- ---- a statement as a part
+
+statement_goal : {s : Term} {a b : Text} → IsReadStatement s a b → (limit : ℕ) → depth s ≤ limit → Follows b → (sees_word (codes "else") b && ends_open s) ≡ false → read limit goal.Statement a ≡ Some (closed s 0, b)
+unfolding read
+statement_goal r zero fits w h = absurd (let s = r.deep in omega arith)
+statement_goal r (suc limit) fits w h = rw (r.reads limit fits w h)
+
+statement_part : {s : Term} {a b : Text} → IsReadStatement s a b → (limit : ℕ) → depth s ≤ limit → Follows b → (sees_word (codes "else") b && ends_open s) ≡ false → inner (read limit) a ≡ Some (s, b)
+unfolding inner
+statement_part r limit fits w h = rw (statement_goal r limit fits w h)
+
+pub record IsReadEmbedded (s : Term) (a b : Text) : Type 0 where
+  pub body : is_body s ≡ true
+  pub read : IsReadStatement s a b
+
+embedded_reads : {s : Term} {a b : Text} (limit : ℕ) → IsReadEmbedded s a b → depth s ≤ limit → Follows b → (sees_word (codes "else") b && ends_open s) ≡ false → embedded (read limit) a ≡ Some (s, b)
+unfolding embedded
+embedded_reads limit r fits w h = rw (statement_part r.read limit fits w h, r.body)
+
+-- ( e )
+condition_reads : {e : Term} {a b c d : Text} (limit : ℕ) → Seen (sign (codes "(")) a b → IsReadExpression true e b c → Seen (sign (codes ")")) c d → depth e ≤ limit → condition (read limit) a ≡ Some (e, d)
+unfolding condition
+condition_reads limit open' x close fits = rw (expect_read open', expression_before x limit fits (ap is_end close.lexeme_is) (sees_by (codes ",") close), expect_read close)
+
+-- ---- by the first token
+
+word_there : {x : Text} (sub : Goal → Text → Reading Found) {a b : Text} → Seen (word x) a b → statement sub a ≡ word_statement sub x a
+unfolding statement
+word_there sub t = rw (t.lexeme_is)
+
+-- where both are asked for, one is not
+no_both : (p q : Bool) → p ≡ false → (p && q) ≡ false
+no_both true q h = absurd (cc)
+no_both false q h = refl
+
+only_left : (p : Bool) → (p && true) ≡ false → p ≡ false
+only_left true h = h
+only_left false h = refl
+
+-- ---- statements without parts
+
+empty_reads : (limit : ℕ) {a b : Text} → Seen (sign (codes ";")) a b → statement (read limit) a ≡ Some (alone Kind.EmptyStatement, b)
+unfolding statement
+empty_reads limit t = rw (t.lexeme_is, t.after_is)
+
+pub empty_read : {a b : Text} → Seen (sign (codes ";")) a b → IsReadStatement (alone Kind.EmptyStatement) a b
+empty_read t = record { utf8 = t.utf8; shorter = t.shorter; begun = ap starts t.lexeme_is; deep = omega arith; reads = λ limit fits w h. empty_reads limit t }
+
+debugger_reads : (limit : ℕ) {a b c : Text} → Seen (word (codes "debugger")) a b → Semicolon plain b c → statement (read limit) a ≡ Some (alone Kind.DebuggerStatement, c)
+unfolding word_statement
+debugger_reads limit t end = word_there (read limit) t ∙ rw (t.after_is, semicolon_read end t.utf8)
+
+pub debugger_read : {a b c : Text} → Seen (word (codes "debugger")) a b → Semicolon plain b c → IsReadStatement (alone Kind.DebuggerStatement) a c
+debugger_read t end = record { utf8 = semicolon_utf8 end t.utf8; shorter = let s = t.shorter in let k = semicolon_short end t.utf8 in omega arith; begun = ap starts t.lexeme_is; deep = omega arith; reads = λ limit fits w h. debugger_reads limit t end }
+
+-- ---- blocks
+
+enclosed_reads : {ss : List Term} {a b c : Text} (limit : ℕ) → IsReadStatements ss a b → Seen (sign (codes "}")) b c → depths (all ss) ≤ limit → enclosed (read limit) a ≡ Some (ss, c)
+unfolding enclosed
+enclosed_reads {a = a} limit r close fits = rw (r.reads limit (length a) [] fits (omega arith) (sees_by (codes "}") close), expect_read close)
+
+block_reads : {ss : List Term} {a b c d : Text} (limit : ℕ) → Seen (sign (codes "{")) a b → IsReadStatements ss b c → Seen (sign (codes "}")) c d → depths (all ss) ≤ limit → block (read limit) a ≡ Some (block_of ss, d)
+unfolding block
+block_reads limit open' r close fits = rw (expect_read open', enclosed_reads limit r close fits)
+
+block_there : {ss : List Term} {a b c d : Text} (limit : ℕ) → Seen (sign (codes "{")) a b → IsReadStatements ss b c → Seen (sign (codes "}")) c d → depths (all ss) ≤ limit → statement (read limit) a ≡ Some (block_of ss, d)
+unfolding statement
+block_there limit open' r close fits = rw (open'.lexeme_is, block_reads limit open' r close fits)
+
+pub block_read : {ss : List Term} {a b c d : Text} → Seen (sign (codes "{")) a b → IsReadStatements ss b c → Seen (sign (codes "}")) c d → IsReadStatement (block_of ss) a d
+block_read open' r close = record {
+  utf8 = close.utf8;
+  shorter = let s = open'.shorter in let k = r.short in let z = close.shorter in omega arith;
+  begun = ap starts open'.lexeme_is;
+  deep = omega arith;
+  reads = λ limit fits w h. block_there limit open' r close (omega arith);
+}
+
+-- ---- lists of statements
+
+none_reads : {a : Text} (limit n : ℕ) (found : List Term) → sees (codes "}") a ≡ true → length a ≤ n → 0 < length a → statements (read limit) n found a ≡ Some (found ++ [], a)
+unfolding statements
+none_reads limit zero found is enough some = absurd (omega arith)
+none_reads limit (suc n) found is enough some = rw (is, append-nil found)
+
+seen_shorter : (s a : Text) → sees s a ≡ true → IsUtf8 a → 0 < length a
+seen_shorter s a is u = let t = (seen s a u is).token in let k = token_shorter t in omega arith
+
+pub no_statements_read : {a : Text} → IsUtf8 a → IsReadStatements [] a a
+no_statements_read {a} u = record { utf8 = u; short = omega arith; reads = λ limit n found fits enough is. none_reads limit n found is enough (seen_shorter (codes "}") a is u) }
+
+-- statements behind which nothing goes on with them
+pub record StatementsFollow (ss : List Term) (a b : Text) : Type 0 where
+  pub read : IsReadStatements ss a b
+  pub calm : sees_word (codes "else") b ≡ false → sees_word (codes "else") a ≡ false
+  pub follows : Follows b → Follows a
+
+brace_follows : (b : Text) → sees (codes "}") b ≡ true → Follows b × (sees_word (codes "else") b ≡ false)
+unfolding sees sees_word
+brace_follows b is = let l = sees_sign (codes "}") b is in (record { no_comma = rw l refl; no_equals = rw l refl }, rw l refl)
+
+next_reads : {s : Term} {ss : List Term} {a b c : Text} (limit n : ℕ) (found : List Term) → IsReadStatement s a b → StatementsFollow ss b c → depths (all (s ∷ ss)) ≤ limit → length a ≤ n → sees (codes "}") c ≡ true → statements (read limit) n found a ≡ Some (found ++ s ∷ ss, c)
+unfolding statements
+next_reads limit zero found r rest fits enough is = absurd (let s = r.shorter in omega arith)
+next_reads {s} {ss} {a} {b} {c} limit (suc n) found r rest fits enough is =
+    let s1 = r.shorter in
+    let (w, calm) = brace_follows c is in
+    let part = statement_goal r limit (omega arith) (rest.follows w) (no_both (sees_word (codes "else") b) (ends_open s) (rest.calm calm)) in
+    rw (starts_no_sign (codes "}") a r.begun refl, part, rest.read.reads limit n (found ++ s ∷ []) (omega arith) (omega arith) is, append_assoc found (s ∷ []) ss)
+
+pub next_statement_read : {s : Term} {ss : List Term} {a b c : Text} → IsReadStatement s a b → StatementsFollow ss b c → StatementsFollow (s ∷ ss) a c
+next_statement_read {a = a} r rest = record {
+  read = record {
+    utf8 = rest.read.utf8;
+    short = let s = r.shorter in let k = rest.read.short in omega arith;
+    reads = λ limit n found fits enough is. next_reads limit n found r rest fits enough is;
+  };
+  calm = λ h. starts_no_word (codes "else") a r.begun refl;
+  follows = λ h. starts_follow a r.begun;
+}
+
+-- ---- if and the loops
+
+pub record IsReadCondition (e : Term) (a d : Text) : Type 0 where
+  pub utf8 : IsUtf8 d
+  pub shorter : length d < length a
+  pub reads : (limit : ℕ) → depth e ≤ limit → condition (read limit) a ≡ Some (e, d)
+
+pub condition_read : {e : Term} {a b c d : Text} → Seen (sign (codes "(")) a b → IsReadExpression true e b c → Seen (sign (codes ")")) c d → IsReadCondition e a d
+condition_read open' x close = record {
+  utf8 = close.utf8;
+  shorter = let s1 = open'.shorter in let s2 = x.shorter in let s3 = close.shorter in omega arith;
+  reads = λ limit fits. condition_reads limit open' x close fits;
+}
+
+if_reads : {e s : Term} {a b c d : Text} (limit : ℕ) → Seen (word (codes "if")) a b → IsReadCondition e b c → IsReadEmbedded s c d → depth e ≤ limit → depth s ≤ limit → Follows d → sees_word (codes "else") d ≡ false → statement (read limit) a ≡ Some (if_of e s absent, d)
+unfolding word_statement if_statement alternate
+if_reads {s = s} {d = d} limit t x y fits fits' w calm = word_there (read limit) t ∙ rw (t.after_is, x.reads limit fits, embedded_reads limit y fits' w (no_both (sees_word (codes "else") d) (ends_open s) calm), calm)
+
+pub if_read : {e s : Term} {a b c d : Text} → Seen (word (codes "if")) a b → IsReadCondition e b c → IsReadEmbedded s c d → IsReadStatement (if_of e s absent) a d
+if_read t x y = let r = y.read in record {
+  utf8 = r.utf8;
+  shorter = let s1 = t.shorter in let s2 = x.shorter in let s3 = r.shorter in omega arith;
+  begun = ap starts t.lexeme_is;
+  deep = omega arith;
+  reads = λ limit fits w h. if_reads limit t x y (omega arith) (omega arith) w (only_left _ h);
+}
+
+while_reads : {e s : Term} {a b c d : Text} (limit : ℕ) → Seen (word (codes "while")) a b → IsReadCondition e b c → IsReadEmbedded s c d → depth e ≤ limit → depth s ≤ limit → Follows d → (sees_word (codes "else") d && ends_open s) ≡ false → statement (read limit) a ≡ Some (of_parts Kind.WhileStatement e s, d)
+unfolding word_statement while_statement
+while_reads limit t x y fits fits' w h = word_there (read limit) t ∙ rw (t.after_is, x.reads limit fits, embedded_reads limit y fits' w h)
+
+pub while_read : {e s : Term} {a b c d : Text} → Seen (word (codes "while")) a b → IsReadCondition e b c → IsReadEmbedded s c d → IsReadStatement (of_parts Kind.WhileStatement e s) a d
+while_read t x y = let r = y.read in record {
+  utf8 = r.utf8;
+  shorter = let s1 = t.shorter in let s2 = x.shorter in let s3 = r.shorter in omega arith;
+  begun = ap starts t.lexeme_is;
+  deep = omega arith;
+  reads = λ limit fits w h. while_reads limit t x y (omega arith) (omega arith) w h;
+}
+
+-- a word other than `else` follows a statement
+word_follows : {x b c : Text} → Seen (word x) b c → Follows b
+word_follows t = token_follows t refl refl
+
+do_reads : {e s : Term} {a b c d f g : Text} (limit : ℕ) → Seen (word (codes "do")) a b → IsReadEmbedded s b c → Seen (word (codes "while")) c d → IsReadCondition e d f → DoEnd f g → depth e ≤ limit → depth s ≤ limit → statement (read limit) a ≡ Some (of_parts Kind.DoWhileStatement s e, g)
+unfolding word_statement do_statement
+do_reads {s = s} {c = c} limit t y t' x end fits fits' =
+    word_there (read limit) t ∙ rw (t.after_is, embedded_reads limit y fits' (word_follows t') (no_both (sees_word (codes "else") c) (ends_open s) (sees_word_by (codes "else") t')), expect_word_read t', x.reads limit fits, do_end_read end x.utf8)
+
+pub do_read : {e s : Term} {a b c d f g : Text} → Seen (word (codes "do")) a b → IsReadEmbedded s b c → Seen (word (codes "while")) c d → IsReadCondition e d f → DoEnd f g → IsReadStatement (of_parts Kind.DoWhileStatement s e) a g
+do_read t y t' x end = let r = y.read in record {
+  utf8 = do_end_utf8 end x.utf8;
+  shorter = let s1 = t.shorter in let s2 = r.shorter in let s3 = t'.shorter in let s4 = x.shorter in let s5 = do_end_short end x.utf8 in omega arith;
+  begun = ap starts t.lexeme_is;
+  deep = omega arith;
+  reads = λ limit fits w h. do_reads limit t y t' x end (omega arith) (omega arith);
+}
+
+present_ends : (e s t : Term) → 0 < depth t → ends_open (if_of e s t) ≡ ends_open t
+present_ends e s absent h = absurd (omega arith)
+present_ends e s (list ts) h = refl
+present_ends e s (node k texts ts) h = refl
+
+if_else_reads : {e s t : Term} {a b c d f g : Text} (limit : ℕ) → ends_open s ≡ false → Seen (word (codes "if")) a b → IsReadCondition e b c → IsReadEmbedded s c d → Seen (word (codes "else")) d f → IsReadEmbedded t f g → depth e ≤ limit → depth s ≤ limit → depth t ≤ limit → Follows g → (sees_word (codes "else") g && ends_open t) ≡ false → statement (read limit) a ≡ Some (if_of e s t, g)
+unfolding word_statement if_statement alternate
+if_else_reads {s = s} {d = d} limit shut t x y t' z fits fits' fits'' w h =
+    word_there (read limit) t ∙ rw (t.after_is, x.reads limit fits, embedded_reads limit y fits' (word_follows t') (shut_in (sees_word (codes "else") d) shut), sees_word_by (codes "else") t', t'.after_is, embedded_reads limit z fits'' w h, shut)
+  where
+    shut_in : (p : Bool) → ends_open s ≡ false → (p && ends_open s) ≡ false
+    shut_in true e = e
+    shut_in false e = refl
+
+pub if_else_read : {e s t : Term} {a b c d f g : Text} → ends_open s ≡ false → Seen (word (codes "if")) a b → IsReadCondition e b c → IsReadEmbedded s c d → Seen (word (codes "else")) d f → IsReadEmbedded t f g → IsReadStatement (if_of e s t) a g
+if_else_read {e} {s} {t} {g = g} shut w x y w' z = let r = y.read in let q = z.read in record {
+  utf8 = q.utf8;
+  shorter = let s1 = w.shorter in let s2 = x.shorter in let s3 = r.shorter in let s4 = w'.shorter in let s5 = q.shorter in omega arith;
+  begun = ap starts w.lexeme_is;
+  deep = omega arith;
+  reads = λ limit fits v h. if_else_reads limit shut w x y w' z (omega arith) (omega arith) (omega arith) v (ap (λ (k : Bool). sees_word (codes "else") g && k) (sym (present_ends e s t q.deep)) ∙ h);
+}
+
+-- ---- what ends with an expression
+
+-- an expression, and the semicolon behind it
+pub record IsReadEnding (e : Term) (a c : Text) : Type 0 where
+  pub utf8 : IsUtf8 c
+  pub shorter : length c < length a
+  pub deep : 0 < depth e
+  pub begun : begins (lexeme a) ≡ true
+  pub reads : (limit : ℕ) → depth e ≤ limit → ended (read limit) a ≡ Some (e, c)
+
+ending_reads : {n : ℕ} {e : Term} {a b c : Text} (limit : ℕ) → IsReadExpression true e a b → Ends n (edge e) → Semicolon (edge e) b c → depth e ≤ limit → ended (read limit) a ≡ Some (e, c)
+unfolding ended
+ending_reads limit x ends end fits = let k = ended_at end x.utf8 in rw (x.reads limit fits (ended_holds true 1 k x.utf8 ends) (ended_comma k ends), semicolon_read end x.utf8)
+
+pub ending_read : {n : ℕ} {e : Term} {a b c : Text} → begins (lexeme a) ≡ true → IsReadExpression true e a b → Ends n (edge e) → Semicolon (edge e) b c → IsReadEnding e a c
+ending_read begun x ends end = record {
+  utf8 = semicolon_utf8 end x.utf8;
+  shorter = let s = x.shorter in let k = semicolon_short end x.utf8 in omega arith;
+  deep = x.deep;
+  begun = begun;
+  reads = λ limit fits. ending_reads limit x ends end fits;
+}
+
+-- an operand of `return` stands on its line
+no_semicolon : (b : Text) → begins (lexeme b) ≡ true → sees (codes ";") b ≡ false
+no_semicolon b h = no_sign_there (codes ";") b h refl
+
+operand_here : (b : Text) → begins (lexeme b) ≡ true → same_line b ≡ true → ends_here b ≡ false
+unfolding ends_here left_out
+operand_here b h line =
+    let s = begins_starts (lexeme b) h in
+    rw (no_semicolon b h, starts_no_sign (codes "}") b s refl, starts_no_end b s, line) refl
+
+return_reads : {e : Term} {a b c : Text} (limit : ℕ) → Seen (word (codes "return")) a b → same_line b ≡ true → IsReadEnding e b c → depth e ≤ limit → statement (read limit) a ≡ Some (return_of e, c)
+unfolding word_statement return_statement
+return_reads {b = b} limit t line x fits = word_there (read limit) t ∙ rw (t.after_is, operand_here b x.begun line, x.reads limit fits)
+
+pub return_read : {e : Term} {a b c : Text} → Seen (word (codes "return")) a b → same_line b ≡ true → IsReadEnding e b c → IsReadStatement (return_of e) a c
+return_read t line x = record {
+  utf8 = x.utf8;
+  shorter = let s1 = t.shorter in let s2 = x.shorter in omega arith;
+  begun = ap starts t.lexeme_is;
+  deep = omega arith;
+  reads = λ limit fits w h. return_reads limit t line x (omega arith);
+}
+
+throw_reads : {e : Term} {a b c : Text} (limit : ℕ) → Seen (word (codes "throw")) a b → same_line b ≡ true → IsReadEnding e b c → depth e ≤ limit → statement (read limit) a ≡ Some (of_part Kind.ThrowStatement e, c)
+unfolding word_statement throw_statement
+throw_reads limit t line x fits = word_there (read limit) t ∙ rw (t.after_is, line, x.reads limit fits)
+
+pub throw_read : {e : Term} {a b c : Text} → Seen (word (codes "throw")) a b → same_line b ≡ true → IsReadEnding e b c → IsReadStatement (of_part Kind.ThrowStatement e) a c
+throw_read t line x = record {
+  utf8 = x.utf8;
+  shorter = let s1 = t.shorter in let s2 = x.shorter in omega arith;
+  begun = ap starts t.lexeme_is;
+  deep = omega arith;
+  reads = λ limit fits w h. throw_reads limit t line x (omega arith);
+}
+
+-- where a semicolon may stand, nothing of `return`, `break` or `continue` does
+plain_here : {a b : Text} → Ended plain a b → ends_here a ≡ true
+unfolding ends_here
+plain_here {a} (by_sign t) = rw (sees_by (codes ";") t) refl
+plain_here {a} (by_stop same stop) = let l = stop.left in let s = stop.no_semicolon in rw (s, l) refl
+
+bare_reads : {a b c : Text} (limit : ℕ) → Seen (word (codes "return")) a b → Semicolon plain b c → statement (read limit) a ≡ Some (return_of absent, c)
+unfolding word_statement return_statement
+bare_reads limit t end = word_there (read limit) t ∙ rw (t.after_is, plain_here (ended_at end t.utf8), semicolon_read end t.utf8)
+
+pub bare_return_read : {a b c : Text} → Seen (word (codes "return")) a b → Semicolon plain b c → IsReadStatement (return_of absent) a c
+bare_return_read t end = record {
+  utf8 = semicolon_utf8 end t.utf8;
+  shorter = let s = t.shorter in let k = semicolon_short end t.utf8 in omega arith;
+  begun = ap starts t.lexeme_is;
+  deep = omega arith;
+  reads = λ limit fits w h. bare_reads limit t end;
+}
