@@ -51,6 +51,7 @@ module _ (item : Text → Reading Found) where
       next again f b true true = ap (λ (s : Summary). Some (with_comma s, after b)) (added_is fs f)
       next again f b true false = ap (λ (s : Summary). summed item close n s (after b)) (added_is fs f) ∙ again (fs ++ f ∷ []) (after b)
       next again f b false l = ap (λ (s : Summary). Some (s, b)) (added_is fs f)
+
       go : ((gs : List Found) (b : Text) → summed item close n (summary gs false) b ≡ (items item close n gs b >>= λ p c. Some (summary p.0 p.1, c))) → (r : Reading Found) →
           (r >>= λ f b. if sees (codes ",") b then (if sees close (after b) then Some (with_comma (added (summary fs false) f), after b) else summed item close n (added (summary fs false) f) (after b)) else Some (added (summary fs false) f, b))
           ≡ ((r >>= λ x b. if sees (codes ",") b then (if sees close (after b) then Some ((fs ++ x ∷ [], true), after b) else items item close n (fs ++ x ∷ []) (after b)) else Some ((fs ++ x ∷ [], false), b)) >>= λ p c. Some (summary p.0 p.1, c))
