@@ -7,12 +7,11 @@ use Rattle.js_term.specs.Term.{Text, is_text, Term, depth}
 use Rattle.js_term.specs.Lexeme.{is_one_of}
 use Rattle.js_syntax.specs.Printable.{ends_open}
 use Rattle.js_syntax.specs.Tokens.{Lexeme, word, private_name, number, big_integer, string, no_substitution, template_head, sign, regexp, template_middle, template_tail}
-use Rattle.js_syntax.proofs.Fronts.{same_text}
 use Rattle.js_tokens.specs.Next.{lexeme, after}
 use Rattle.js_reading.specs.Reading.{Reading, is_sign, is_word, sees, sees_word, at_end}
 use Rattle.js_reading.specs.Statements.{statement}
 use Rattle.js_reading.specs.Read.{read}
-use Rattle.js_reading.proofs.Each.{is_end as at_its_end}
+use Rattle.js_reading.proofs.Each.{sign_is, word_is, is_end as at_its_end}
 use Rattle.js_reading.proofs.TokensThere.{Seen, see_sign, sees_by, sees_word_by}
 use Rattle.js_reading.proofs.TokensEnd.{end_lexeme}
 use Rattle.js_reading.proofs.Opens.{begins, begins_by}
@@ -30,50 +29,22 @@ abbrev pub starts : Option Lexeme → Bool
 starts None = false
 starts (Some l) = starts_by l
 
-start_sign : (s : Text) (o : Option Lexeme) → starts o ≡ true → starts_by (sign s) ≡ false → is_sign s o ≡ false
-start_sign s None h other = refl
-start_sign s (Some (sign t)) h other = go (is_text t s) refl
-  where
-    go : (b : Bool) → is_text t s ≡ b → is_text t s ≡ false
-    go false e = e
-    go true e = absurd (false≢true (sym other ∙ ap (λ z. starts_by (sign z)) (sym (same_text t s e)) ∙ h))
-start_sign s (Some (word x)) h other = refl
-start_sign s (Some (private_name x)) h other = refl
-start_sign s (Some (number x)) h other = refl
-start_sign s (Some (big_integer x)) h other = refl
-start_sign s (Some (string x v)) h other = refl
-start_sign s (Some (regexp x v)) h other = refl
-start_sign s (Some (no_substitution x)) h other = refl
-start_sign s (Some (template_head x)) h other = refl
-start_sign s (Some (template_middle x)) h other = refl
-start_sign s (Some (template_tail x)) h other = refl
-
-start_word : (x : Text) (o : Option Lexeme) → starts o ≡ true → starts_by (word x) ≡ false → is_word x o ≡ false
-start_word x None h other = refl
-start_word x (Some (word y)) h other = go (is_text y x) refl
-  where
-    go : (b : Bool) → is_text y x ≡ b → is_text y x ≡ false
-    go false e = e
-    go true e = absurd (false≢true (sym other ∙ ap (λ z. starts_by (word z)) (sym (same_text y x e)) ∙ h))
-start_word x (Some (sign s)) h other = refl
-start_word x (Some (private_name y)) h other = refl
-start_word x (Some (number y)) h other = refl
-start_word x (Some (big_integer y)) h other = refl
-start_word x (Some (string y v)) h other = refl
-start_word x (Some (regexp y v)) h other = refl
-start_word x (Some (no_substitution y)) h other = refl
-start_word x (Some (template_head y)) h other = refl
-start_word x (Some (template_middle y)) h other = refl
-start_word x (Some (template_tail y)) h other = refl
-
 -- no statement begins with this sign, with this word
 pub starts_no_sign : (s a : Text) → starts (lexeme a) ≡ true → starts_by (sign s) ≡ false → sees s a ≡ false
 unfolding sees
-starts_no_sign s a h other = start_sign s (lexeme a) h other
+starts_no_sign s a h other = go (is_sign s (lexeme a)) refl
+  where
+    go : (b : Bool) → is_sign s (lexeme a) ≡ b → is_sign s (lexeme a) ≡ false
+    go false e = e
+    go true e = absurd (false≢true (sym other ∙ sym (ap starts (sign_is s (lexeme a) e)) ∙ h))
 
 pub starts_no_word : (x a : Text) → starts (lexeme a) ≡ true → starts_by (word x) ≡ false → sees_word x a ≡ false
 unfolding sees_word
-starts_no_word x a h other = start_word x (lexeme a) h other
+starts_no_word x a h other = go (is_word x (lexeme a)) refl
+  where
+    go : (b : Bool) → is_word x (lexeme a) ≡ b → is_word x (lexeme a) ≡ false
+    go false e = e
+    go true e = absurd (false≢true (sym other ∙ sym (ap starts (word_is x (lexeme a) e)) ∙ h))
 
 pub starts_no_end : (a : Text) → starts (lexeme a) ≡ true → at_end a ≡ false
 starts_no_end a h = go (at_end a) refl
