@@ -72,6 +72,7 @@ arrow_parameters_there {fs} {comma} {a} {b} {c} {d} open' held close ps h = go (
         let (q, items, same) = pattern_as_is Kind.FormalParameters (with_rest (parameters_as p.0) (parameter_rest (pattern_rest p.1))) ps h in
         let (first, rest) = with_rest_is (parameters_as p.0) (parameter_rest (pattern_rest p.1)) q items in
         subst (λ (z : Term). Parameters true z a d) same (spell.parameters open' (rested_parameters (held_rested (raw_targets false) held free p.0 p.1 is) q.0 q.1 first rest) close)
+
     go : (k : Bool) → is_barred fs comma ≡ k → (if k then None else arrow_parameters (target_elements (all (trees fs)))) ≡ Some ps → Parameters true ps a d
     go true is h = absurd (cc)
     go false is h = found is (target_elements (all (trees fs))) refl h

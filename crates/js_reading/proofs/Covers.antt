@@ -126,6 +126,7 @@ raw_element = record {
     go f a b (raw c) h = spell.an_element (c.stands h)
     go f a b (raw_spread tok c) h = spell.a_spread_element (spell.spread tok (c.stands h))
     go f a b (raw_hole is) h = spell.an_elision
+
     present : (f : Found) (a b : Text) → Raw true f a b → sees (codes ",") b ≡ false → is_present f.tree ≡ true
     present f a b (raw c) h = solid_present f.tree c.solid
     present f a b (raw_spread tok c) h = refl
@@ -140,6 +141,7 @@ raw_argument = record {
     go : (f : Found) (a b : Text) → Raw false f a b → f.cover ≡ false → Item spell.argument f.tree a b
     go f a b (raw c) h = spell.an_argument (c.stands h)
     go f a b (raw_spread tok c) h = spell.a_spread_argument (spell.spread tok (c.stands h))
+
     present : (f : Found) (a b : Text) → Raw false f a b → sees (codes ",") b ≡ false → is_present f.tree ≡ true
     present f a b (raw c) h = solid_present f.tree c.solid
     present f a b (raw_spread tok c) h = refl
@@ -289,6 +291,7 @@ raw_targets h = record {
   where
     whole : (f : Found) (a b : Text) → Covers true 2 f a b → f.barred ≡ false → Class spell.target_element (target_of true) (λ t. rest_as Kind.AssignmentTargetRest (target_of false t)) f a b
     whole f a b c k = an_item (solid_item f.tree c.solid) (λ u e. let x = c.element k u refl e in (spell.a_target x, λ stops. defaulted_present x))
+
     class : {h : Bool} (f : Found) (a b : Text) → Raw h f a b → f.barred ≡ false → Class spell.target_element (target_of true) (λ t. rest_as Kind.AssignmentTargetRest (target_of false t)) f a b
     class f a b (raw c) k = whole f a b c k
     class f a b (raw_spread {f = g} tok c) k = a_spread g.tree refl (λ us r e. let (t, is, none_is, rest_is) = rest_as_is Kind.AssignmentTargetRest (target_of false g.tree) us r e in (none_is, rw rest_is (spell.rest_target tok (c.target k t is))))
@@ -330,6 +333,7 @@ raw_property = record {
     go f a b (raw_short free tok) h = spell.a_shorthand free tok
     go f a b (raw_default free tok tok' s) h = absurd (cc)
     go f a b (raw_rest tok c) h = spell.a_spread_property (spell.spread tok (c.stands h))
+
     present : (f : Found) (a b : Text) → RawProperty f a b → is_present f.tree ≡ true
     present f a b (raw_pair key tok c) = refl
     present f a b (raw_function {t} x solid none') = solid_present t solid
@@ -378,10 +382,12 @@ raw_pairs = record {
     pair {computed} {key} f a b c d x tok y k u e =
         let (t, is, same) = part_as_is Kind.AssignmentTargetProperty (flag computed (codes "computed") ∷ [] ∷ []) key (target_of true f.tree) u e in
         subst (λ (u : Term). Item spell.target_property u a d) same (spell.a_target_pair x tok (y.element k t refl is))
+
     pair_present : (computed : Bool) (key : Term) (f : Found) (u : Term) → target_property (pair_found (computed, key) f).tree ≡ Some u → is_present u ≡ true
     pair_present computed key f u e =
         let (t, is, same) = part_as_is Kind.AssignmentTargetProperty (flag computed (codes "computed") ∷ [] ∷ []) key (target_of true f.tree) u e in
         rw (sym same) refl
+
     class : (f : Found) (a b : Text) → RawProperty f a b → f.barred ≡ false → Class spell.target_property target_property object_rest f a b
     class f a b (raw_pair {computed} {k = key} {f = g} {b = m} {c} x tok y) k = an_item refl (λ u e. (pair g a m c b x tok y k u e, λ stops. pair_present computed key g u e))
     class f a b (raw_function {t} x solid none') k = an_item (solid_item t solid) (λ u e. absurd (none_some u (sym none' ∙ e)))

@@ -75,6 +75,7 @@ there a u l e = record { token = go (next a) refl e; utf8 = left (next a) refl }
     go : (c : Cut) → next a ≡ c → lexeme_in c ≡ Some l → Token a l (rest_in a c)
     go None is e = absurd (cc)
     go (Some p) is e = let same : p.0 ≡ l = cc in subst (λ (k : Lexeme). Token a k p.1) same (token_found a u p.0 p.1 is)
+
     left : (c : Cut) → next a ≡ c → IsUtf8 (rest_in a c)
     left None is = u
     left (Some p) is = next_utf8 a u p.0 p.1 is
@@ -213,8 +214,8 @@ semicolon_each e a u =
     each_if (sees (codes ";") a) _ _ (λ is. let t = seen (codes ";") a u is in each_some tt (after a) t.utf8 (spell.written t.token)) (λ other.
     each_if _ _ _
     (λ h. each_some tt a u (or_cases (sees (codes "}") a || at_end a) _ h
-        (λ h. or_cases (sees (codes "}") a) (at_end a) h (λ is. let t = seen (codes "}") a u is in spell.before_brace t.token) (λ is. spell.at_end (is_end a is)))
-        (λ h. let (line, stops) = and_parts (not (same_line a)) (not (goes_on_at e (lexeme a))) h in behind_line e a u other (not_true _ line) (not_true _ stops))))
+    (λ h. or_cases (sees (codes "}") a) (at_end a) h (λ is. let t = seen (codes "}") a u is in spell.before_brace t.token) (λ is. spell.at_end (is_end a is)))
+    (λ h. let (line, stops) = and_parts (not (same_line a)) (not (goes_on_at e (lexeme a))) h in behind_line e a u other (not_true _ line) (not_true _ stops))))
     (λ _. each_none))
 
 pub do_end_each : (a : Text) → IsUtf8 a → Each (λ (_ : Unit {0}) b. DoEnd a b) (do_end a)

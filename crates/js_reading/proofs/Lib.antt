@@ -27,6 +27,7 @@ pub mod Prefixes
 pub mod Listings
 pub mod Links
 pub mod Claims
+pub mod Derived
 pub mod Calls
 pub mod Grouped
 pub mod Arrows
@@ -35,4 +36,6 @@ pub mod Dispatching
 pub mod Templating
 pub mod Fields
 pub mod Completing
-pub mod Endings
+pub mod Ending
+pub mod StatementStarts
+pub mod StatementsThere

@@ -48,8 +48,10 @@ among_rows n ((ops, m) ∷ rows) s k h e = go (λ f. among_rows n rows s k both.
   where
     both : (list_all (λ op. agree n op m) ops ≡ true) × (rows_agree n rows ≡ true)
     both = and_parts (list_all (λ op. agree n op m) ops) (rows_agree n rows) h
+
     here : is_one_of s ops ≡ true → m ≡ k → agree n s k ≡ true
     here is same = rw (sym same) (among (λ op. agree n op m) ops s both.0 is)
+
     go : (level_among s rows ≡ Some k → agree n s k ≡ true) → (b : Bool) → is_one_of s ops ≡ b → (if b then Some m else level_among s rows) ≡ Some k → agree n s k ≡ true
     go again true is e = here is (cc)
     go again false is e = again e
@@ -82,9 +84,11 @@ word_cases P i x h p q = go (is_text x (codes "in")) refl h
     instance' : (k : Bool) → is_text x (codes "instanceof") ≡ k → 2 ≤ (if k then 11 else 0) → P i x
     instance' true e h = subst (λ (z : Text). P i z) (sym (same_text x (codes "instanceof") e)) (q i)
     instance' false e h = absurd (omega arith)
+
     in' : (j : Bool) → 2 ≤ (if j then 11 else 0) → P j (codes "in")
     in' true h = p
     in' false h = absurd (omega arith)
+
     go : (k : Bool) → is_text x (codes "in") ≡ k → 2 ≤ (if k then (if i then 11 else 0) else if is_text x (codes "instanceof") then 11 else 0) → P i x
     go true e h = subst (λ (z : Text). P i z) (sym (same_text x (codes "in") e)) (in' i h)
     go false e h = instance' (is_text x (codes "instanceof")) refl h

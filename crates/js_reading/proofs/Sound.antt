@@ -12,6 +12,7 @@ use Rattle.js_reading.specs.Expressions.{at}
 use Rattle.js_reading.specs.Statements.{pattern, statement}
 use Rattle.js_reading.specs.Modules.{module_body}
 use Rattle.js_reading.specs.Read.{step, read, read_body}
+use Rattle.js_reading.specs.Laws.{Sound}
 use Rattle.js_reading.proofs.Each.{Each, each_none, each_some, each_bind}
 use Rattle.js_reading.proofs.SoundParts.{Good, Fits}
 use Rattle.js_reading.proofs.SoundClimb.{level_each, callee_each}
@@ -34,3 +35,6 @@ read_each (suc n) g a u = step_each (read n) (λ h b v. read_each n h b v) g a u
 pub read_sound : (hs : List Text) (ds ss : List Term) (a b c : Text) → IsUtf8 b → Hashbang hs a b → read_body b ≡ Some ((ds, ss), c) → Spells a (module_of hs ds ss)
 unfolding read_body
 read_sound hs ds ss a b c u bang e = let x = (body_each (read 511) (λ g d v. read_each 511 g d v) b u).holds (ds, ss) c e in module'.spells x.free bang x.directives x.items x.end
+
+pub sound : Sound
+sound = record { spelled = read_sound }

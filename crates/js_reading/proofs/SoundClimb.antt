@@ -37,6 +37,7 @@ default_element {i} {n} {op} {t} {e} {u} {a} {b} {c} {d} is x tok s h = go (is_t
     whole : (j : Bool) → j ≡ true → Target j t a b → Stands j n e c d → is_text op (codes "=") ≡ true → DefaultedTarget (of_parts Kind.AssignmentTargetWithDefault t e) a d
     whole true is x s k = spell.target_default x (as_sign (codes "=") k tok) s
     whole false is x s k = absurd (cc)
+
     go : (k : Bool) → is_text op (codes "=") ≡ k → (if k then Some (of_parts Kind.AssignmentTargetWithDefault t e) else None) ≡ Some u → DefaultedTarget u a d
     go true k h = let same : of_parts Kind.AssignmentTargetWithDefault t e ≡ u = cc in subst (λ (z : Term). DefaultedTarget z a d) same (whole i is x s k)
     go false k h = absurd (cc)
@@ -65,10 +66,12 @@ assigned_is {i} op f t {a} {b} c h = go (is_text op (codes "=")) refl h
     pattern : is_text op (codes "=") ≡ true → (k : Bool) → f.barred ≡ k → (if k then None else target_of false f.tree) ≡ Some t → Assigned i op t a b
     pattern e true is h = absurd (cc)
     pattern e false is h = record { simple = rw (e) (or_true (is_simple_target t)); target = c.target is t h }
+
     simple : (k l : Bool) → f.cover ≡ k → is_simple_target f.tree ≡ l → (if k then None else if l then Some f.tree else None) ≡ Some t → Assigned i op t a b
     simple true l is e h = absurd (cc)
     simple false true is e h = let same : f.tree ≡ t = cc in subst (λ (z : Term). Assigned i op z a b) same (record { simple = rw e refl; target = spell.simple_target e (c.stands is) })
     simple false false is e h = absurd (cc)
+
     go : (k : Bool) → is_text op (codes "=") ≡ k → (if k then target_in f else if f.cover then None else if is_simple_target f.tree then Some f.tree else None) ≡ Some t → Assigned i op t a b
     go true e h = pattern e f.barred refl h
     go false e h = simple f.cover (is_simple_target f.tree) refl refl h
@@ -124,8 +127,10 @@ module _ (sub : Goal → Text → Reading Found) (good : Good sub) where
     where
       fits : (k : ℕ) → binary_level s ≡ Some k → (least ≤ k) × (k ≤ f.level)
       fits k is = let (x, y) = binary_agrees f.level s k is in (subst (λ (m : ℕ). least ≤ m) x low, subst (λ (m : ℕ). m ≤ f.level) y high)
+
       may : not (is_text s (codes "in")) ≡ true → not (is_text s (codes "in")) || i ≡ true
       may h = rw h refl
+
       power : s ≡ codes "**" → Each (λ g d. Covers i least g a d) (operated sub i Kind.BinaryExpression s f.tree 15 15 c)
       power same = subst (λ (op : Text). least ≤ sign_gives f.level op → sign_needs op ≤ f.level → Sign op b c → Each (λ g d. Covers i least g a d) (operated sub i Kind.BinaryExpression op f.tree 15 15 c)) (sym same)
           (λ low high tok. each_bind _ (part_each sub good 15 i c u) (λ r d v x. each_some _ _ v (closed_covers low refl refl (spell.exponentiation high x.high st tok x.stands))))
@@ -138,13 +143,13 @@ module _ (sub : Goal → Text → Reading Found) (good : Good sub) where
   sign_each i least f s a b c u low high suited st tok =
       each_if (is_text s (codes ".")) _ _
       (λ e. let same = same_text s (codes ".") e in each_bind _ (dotted_each sub good false f.tree b c u (spell.plain_dot (as_sign (codes ".") e tok))) (λ t d v x.
-        member_from i least f.level f.tree a b d t v (subst (λ (z : Text). least ≤ sign_gives f.level z) same low) (subst (λ (z : Text). sign_needs z ≤ f.level) same high) st x)) (λ _.
+      member_from i least f.level f.tree a b d t v (subst (λ (z : Text). least ≤ sign_gives f.level z) same low) (subst (λ (z : Text). sign_needs z ≤ f.level) same high) st x)) (λ _.
       each_if (is_text s (codes "[")) _ _
       (λ e. let same = same_text s (codes "[") e in each_bind _ (computed_each sub good false f.tree b b c u spell.not_optional (as_sign (codes "[") e tok)) (λ t d v x.
-        member_from i least f.level f.tree a b d t v (subst (λ (z : Text). least ≤ sign_gives f.level z) same low) (subst (λ (z : Text). sign_needs z ≤ f.level) same high) st x)) (λ _.
+      member_from i least f.level f.tree a b d t v (subst (λ (z : Text). least ≤ sign_gives f.level z) same low) (subst (λ (z : Text). sign_needs z ≤ f.level) same high) st x)) (λ _.
       each_if (is_text s (codes "(")) _ _
       (λ e. let same = same_text s (codes "(") e in each_bind _ (called_each sub good false f.tree b c u (as_sign (codes "(") e tok)) (λ t d v (es, is, x).
-        call_found t d v es is (subst (λ (z : Text). least ≤ sign_gives f.level z) same low) (subst (λ (z : Text). sign_needs z ≤ f.level) same high) x)) (λ _.
+      call_found t d v es is (subst (λ (z : Text). least ≤ sign_gives f.level z) same low) (subst (λ (z : Text). sign_needs z ≤ f.level) same high) x)) (λ _.
       each_if (is_text s (codes "?.")) _ _
       (λ e. let same = same_text s (codes "?.") e in chain_each sub good i least f.level f.tree a b c u (subst (λ (z : Text). least ≤ sign_gives f.level z) same low) (subst (λ (z : Text). sign_needs z ≤ f.level) same high) st (as_sign (codes "?.") e tok))
       (λ _. operator_each i least f s a b c u low high suited st tok))))

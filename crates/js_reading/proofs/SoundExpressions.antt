@@ -56,6 +56,7 @@ literal_word_cases P x t h p q r = go (is_text x (codes "this")) (is_text x (cod
   where
     same : {y : Text} {s : Term} → is_text x y ≡ true → Some s ≡ Some t → P y s → P x t
     same {y} {s} e h v = let tree : s ≡ t = cc in subst (λ (z : Text). P z t) (sym (same_text x y e)) (subst (P y) tree v)
+
     go : (k l m n : Bool) → is_text x (codes "this") ≡ k → is_text x (codes "null") ≡ l → is_text x (codes "true") ≡ m → is_text x (codes "false") ≡ n →
         (if k then Some (alone Kind.ThisExpression) else if l then Some (alone Kind.NullLiteral) else if m then Some (boolean_of true) else if n then Some (boolean_of false) else None) ≡ Some t → P x t
     go true l m n e f g j h = same e h p
@@ -81,7 +82,7 @@ module _ (sub : Goal → Text → Reading Found) (good : Good sub) where
   unfolding async_by
   async_each i least a b u tok line = each_if (sees_word (codes "function") b) _ _
       (λ is. let t = seen_word (codes "function") b u is in
-        each_bind _ (function_each sub good Kind.FunctionExpression (codes "async") a b (after b) t.utf8 (spell.with_async tok line) t.token) (λ f c v x. let k = function_closed x in found_at v k.0 k.1 (spell.function_expression x)))
+      each_bind _ (function_each sub good Kind.FunctionExpression (codes "async") a b (after b) t.utf8 (spell.with_async tok line) t.token) (λ f c v x. let k = function_closed x in found_at v k.0 k.1 (spell.function_expression x)))
       (λ _. each_if (is_arrow_name (lexeme b) (after b)) _ _
       (λ h. name (lexeme b) refl h)
       (λ _. each_if (nat_le least 2 && sees (codes "(") b) _ _
@@ -133,18 +134,19 @@ module _ (sub : Goal → Text → Reading Found) (good : Good sub) where
       bare : (f : Found) (c : Text) → f.cover ≡ false → Callees i f b c → (k : Bool) → nat_le 20 f.level ≡ k → Stands i 18 (new_of f.tree none) a c
       bare f c h x true is = spell.bare_construction (spell.new_member tok (leb-true _ _ is) (x.stands h is))
       bare f c h x false is = spell.bare_construction (spell.new_new tok (x.bare h is))
+
       constructed : (f : Found) (c : Text) → IsUtf8 c → f.cover ≡ false → Callees i f b c → Each (λ g d. Covers i 0 g a d) (constructed_by sub f.tree f.level c)
       constructed f c v h x = each_if (nat_le 20 f.level && sees (codes "(") c) _ _
           (λ k. let (high, is) = and_parts (nat_le 20 f.level) (sees (codes "(") c) k in let t = seen (codes "(") c v is in
-            each_bind _ (arguments_each sub good c (after c) t.utf8 t.token) (λ es d w y. each_some _ _ w (closed_covers (omega arith) refl refl (spell.construction tok (leb-true _ _ high) (x.stands h high) y))))
+          each_bind _ (arguments_each sub good c (after c) t.utf8 t.token) (λ es d w y. each_some _ _ w (closed_covers (omega arith) refl refl (spell.construction tok (leb-true _ _ high) (x.stands h high) y))))
           (λ _. each_some _ _ v (closed_covers (omega arith) refl refl (bare f c h x (nat_le 20 f.level) refl)))
 
   second_each : (a b : Text) → IsUtf8 b → Sign (codes ",") a b → Each (λ e c. ImportOptions e a c) (second_argument sub b)
   unfolding second_argument
   second_each a b u tok = each_if (sees (codes ")") b) _ _ (λ _. each_some absent b u (spell.no_options_comma tok))
       (λ _. each_bind _ (part_each sub good 2 true b u) (λ e c v x. each_if (sees (codes ",") c) _ _
-        (λ is. let t = seen (codes ",") c v is in each_some _ _ t.utf8 (spell.options_comma tok x.stands t.token))
-        (λ _. each_some _ _ v (spell.options tok x.stands))))
+      (λ is. let t = seen (codes ",") c v is in each_some _ _ t.utf8 (spell.options_comma tok x.stands t.token))
+      (λ _. each_some _ _ v (spell.options tok x.stands))))
 
   options_each : (a : Text) → IsUtf8 a → Each (λ e b. ImportOptions e a b) (import_options sub a)
   unfolding import_options
@@ -156,9 +158,9 @@ module _ (sub : Goal → Text → Reading Found) (good : Good sub) where
   import_each i a b u tok = each_if (sees (codes ".") b) _ _
       (λ is. let t = seen (codes ".") b u is in each_bind _ (expect_word_each (codes "meta") (after b) t.utf8) (λ _ c v x. found_at v refl refl (spell.import_meta tok t.token x)))
       (λ _. each_bind _ (expect_each (codes "(") b u) (λ _ c v open'.
-        each_bind _ (part_each sub good 2 true c v) (λ e d w x.
-        each_bind _ (options_each d w) (λ o f y q.
-        each_bind _ (expect_each (codes ")") f y) (λ _ g z close. each_some _ _ z (closed_covers (omega arith) refl refl (spell.import_call tok open' x.stands q close)))))))
+      each_bind _ (part_each sub good 2 true c v) (λ e d w x.
+      each_bind _ (options_each d w) (λ o f y q.
+      each_bind _ (expect_each (codes ")") f y) (λ _ g z close. each_some _ _ z (closed_covers (omega arith) refl refl (spell.import_call tok open' x.stands q close)))))))
 
   super_access : (i : Bool) (a b c : Text) (e : Term) → IsUtf8 c → Word (codes "super") a b → Access false super_of e b c → Each (λ f d. Covers i 0 f a d) (super_member sub e c)
   super_access i a b c e u tok x = each_if (is_private_member e) _ _ (λ _. each_none)
@@ -241,6 +243,7 @@ module _ (sub : Goal → Text → Reading Found) (good : Good sub) where
     where
       template : (o : Option Lexeme) → lexeme a ≡ o → Each (λ f b. Covers i 0 f a b) (template_by sub true o (after a) >>= λ q b. at 21 (template_tree q) b)
       template o is = each_bind _ (template_each sub good true a u o is) (λ q b v x. found_at v refl refl (spell.template x))
+
       go : (o : Option Lexeme) → lexeme a ≡ o → Each (λ f b. Covers i 0 f a b) (prefix_by sub i least o a)
       go (Some (word x)) is = let t = there a u _ is in word_each i least x a (after a) t.utf8 t.token
       go (Some (private_name x)) is = let t = there a u _ is in private_each i x a (after a) t.utf8 t.token

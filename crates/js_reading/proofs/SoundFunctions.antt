@@ -171,10 +171,10 @@ module _ (sub : Goal → Text → Reading Found) (good : Good sub) where
   parameter_items_each (suc n) found a u = each_if (sees (codes "...") a) _ _
       (λ is. let t = seen (codes "...") a u is in each_bind _ (bound_each (after a) t.utf8) (λ p b v x. each_some _ _ v (record { new = []; whole = sym (append-nil found); ends = ended_rest (spell.rest_parameter t.token x) })))
       (λ _. each_bind _ (parameter_each a u) (λ p b v x. each_if (sees (codes ",") b) _ _
-        (λ is. let t = seen (codes ",") b v is in each_if (sees (codes ")") (after b)) _ _
-          (λ _. each_some _ _ t.utf8 (record { new = p ∷ []; whole = refl; ends = ended_comma (spell.last x) t.token }))
-          (λ _. each_weaker (parameter_items_each n (found ++ p ∷ []) (after b) t.utf8) (λ y c rest. record { new = p ∷ rest.new; whole = rest.whole ∙ append_assoc found (p ∷ []) rest.new; ends = more_ended x t.token rest.ends })))
-        (λ _. each_some _ _ v (record { new = p ∷ []; whole = refl; ends = ended (spell.last x) }))))
+      (λ is. let t = seen (codes ",") b v is in each_if (sees (codes ")") (after b)) _ _
+      (λ _. each_some _ _ t.utf8 (record { new = p ∷ []; whole = refl; ends = ended_comma (spell.last x) t.token }))
+      (λ _. each_weaker (parameter_items_each n (found ++ p ∷ []) (after b) t.utf8) (λ y c rest. record { new = p ∷ rest.new; whole = rest.whole ∙ append_assoc found (p ∷ []) rest.new; ends = more_ended x t.token rest.ends })))
+      (λ _. each_some _ _ v (record { new = p ∷ []; whole = refl; ends = ended (spell.last x) }))))
 
   parameter_list_each : (a : Text) → IsUtf8 a → Each (λ x b. FitsParameters x a b) (parameter_list sub a)
   unfolding parameter_list

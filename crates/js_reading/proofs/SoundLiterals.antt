@@ -130,16 +130,16 @@ module _ (sub : Goal → Text → Reading Found) (good : Good sub) where
   unfolding accessor_property
   accessor_each kind a b u is = accessor_cases (λ kind. Word kind a b → Each (λ f c. RawProperty f a c) (accessor_property sub kind b)) kind is
       (λ tok. each_bind _ (key_each sub good b u) (λ k c v x. each_bind _ (method_function_each sub good true [] [] c v) (λ f d w y.
-        each_some _ _ w (raw_function (spell.an_accessor (spell.getter tok (spell.public_key x) y) (key_public x)) refl (method_no_target (codes "get") false k.0 k.1 y)))))
+      each_some _ _ w (raw_function (spell.an_accessor (spell.getter tok (spell.public_key x) y) (key_public x)) refl (method_no_target (codes "get") false k.0 k.1 y)))))
       (λ tok. each_bind _ (key_each sub good b u) (λ k c v x. each_bind _ (method_function_each sub good false [] [] c v) (λ f d w y.
-        each_some _ _ w (raw_function (spell.an_accessor (spell.setter tok (spell.public_key x) y) (key_public x)) refl (method_no_target (codes "set") false k.0 k.1 y)))))
+      each_some _ _ w (raw_function (spell.an_accessor (spell.setter tok (spell.public_key x) y) (key_public x)) refl (method_no_target (codes "set") false k.0 k.1 y)))))
 
   behind_key_each : (k : Keyed) (a b : Text) → IsUtf8 b → Key k.0 k.1 a b → Each (λ f c. RawProperty f a c) (behind_key sub k b)
   unfolding behind_key valued
   behind_key_each k a b u x = each_if (sees (codes ":") b) _ _
       (λ is. let t = seen (codes ":") b u is in each_bind _ (good (goal.Expression 2 true) (after b) t.utf8) (λ f c v y. each_some _ _ v (raw_pair x t.token y)))
       (λ _. each_bind _ (method_function_each sub good true [] [] b u) (λ f c v y.
-        each_some _ _ v (raw_function (spell.a_method (spell.method spell.no_async spell.no_star (spell.public_key x) y) (key_public x)) refl (method_no_target (codes "init") true k.0 k.1 y))))
+      each_some _ _ v (raw_function (spell.a_method (spell.method spell.no_async spell.no_star (spell.public_key x) y) (key_public x)) refl (method_no_target (codes "init") true k.0 k.1 y))))
 
   shorthand_each : (x a b : Text) → IsUtf8 b → Word x a b → Each (λ f c. RawProperty f a c) (shorthand sub x b)
   unfolding shorthand
@@ -151,8 +151,8 @@ module _ (sub : Goal → Text → Reading Found) (good : Good sub) where
   unfolding named_property modifies_method
   named_property_each x a b u tok = each_if (is_text x (codes "async") && modifies_method b) _ _
       (λ h. let (is, on) = and_parts (is_text x (codes "async")) (modifies_method b) h in
-        let (line, more') = and_parts (same_line b) (begins_key_at b || sees (codes "*") b) on in
-        each_bind _ (star_each b u) (λ s c v y. marked_method_each (codes "async") s a c v (b, spell.with_async (as_word (codes "async") is tok) (on_same_line b line), y)))
+      let (line, more') = and_parts (same_line b) (begins_key_at b || sees (codes "*") b) on in
+      each_bind _ (star_each b u) (λ s c v y. marked_method_each (codes "async") s a c v (b, spell.with_async (as_word (codes "async") is tok) (on_same_line b line), y)))
       (λ _. each_if (is_accessor x && begins_key_at b) _ _
       (λ h. accessor_each x a b u (and_parts (is_accessor x) (begins_key_at b) h).0 tok)
       (λ _. each_if (sees (codes ":") b || sees (codes "(") b) _ _
@@ -211,9 +211,9 @@ module _ (sub : Goal → Text → Reading Found) (good : Good sub) where
   unfolding element_function
   accessor_element_each kind static a m b u held is = accessor_cases (λ kind. Word kind m b → Each (λ e c. ClassElement e a c) (element_function sub kind static (takes_comma kind) [] [] b)) kind is
       (λ tok. each_bind _ (member_key_each sub good b u) (λ k c v x. each_bind _ (method_function_each sub good true [] [] c v) (λ f d w y.
-        each_if (is_constructor static k.0 k.1) _ _ (λ _. each_none) (λ other. each_some _ _ w (spell.accessor_element other held (spell.getter tok x y))))))
+      each_if (is_constructor static k.0 k.1) _ _ (λ _. each_none) (λ other. each_some _ _ w (spell.accessor_element other held (spell.getter tok x y))))))
       (λ tok. each_bind _ (member_key_each sub good b u) (λ k c v x. each_bind _ (method_function_each sub good false [] [] c v) (λ f d w y.
-        each_if (is_constructor static k.0 k.1) _ _ (λ _. each_none) (λ other. each_some _ _ w (spell.accessor_element other held (spell.setter tok x y))))))
+      each_if (is_constructor static k.0 k.1) _ _ (λ _. each_none) (λ other. each_some _ _ w (spell.accessor_element other held (spell.setter tok x y))))))
 
   field_each : (static : Text) (k : Keyed) (a m b : Text) → IsUtf8 b → Static static a m → MemberKey k.0 k.1 m b → Each (λ e c. ClassElement e a c) (field sub static k b)
   unfolding field
@@ -241,8 +241,8 @@ module _ (sub : Goal → Text → Reading Found) (good : Good sub) where
       let t = there m u _ is in
       each_if (is_text x (codes "async") && modifies_method (after m)) _ _
       (λ h. let (same, on) = and_parts (is_text x (codes "async")) (modifies_method (after m)) h in
-        let (line, more') = and_parts (same_line (after m)) (begins_key_at (after m) || sees (codes "*") (after m)) on in
-        each_bind _ (star_each (after m) t.utf8) (λ s c v y. method_element_each static (codes "async") s a m c v held (after m, spell.with_async (as_word (codes "async") same t.token) (on_same_line (after m) line), y)))
+      let (line, more') = and_parts (same_line (after m)) (begins_key_at (after m) || sees (codes "*") (after m)) on in
+      each_bind _ (star_each (after m) t.utf8) (λ s c v y. method_element_each static (codes "async") s a m c v held (after m, spell.with_async (as_word (codes "async") same t.token) (on_same_line (after m) line), y)))
       (λ _. each_if (is_accessor x && begins_key_at (after m)) _ _
       (λ h. accessor_element_each x static a m (after m) t.utf8 held (and_parts (is_accessor x) (begins_key_at (after m)) h).0 t.token)
       (λ _. plain_element_each static a m u held))

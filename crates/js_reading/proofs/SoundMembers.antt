@@ -97,7 +97,7 @@ module _ (sub : Goal → Text → Reading Found) (good : Good sub) where
       each_if (arrow_here e) _ _
       (λ h. arrow_from i (codes "async") a e w h (parameters_in found.0 found.1) (λ ps is. spell.arrow_async tok line (spell.arrow_parameters (arrow_parameters_there open' x close ps is))))
       (λ _. each_if (any_cover found.0) _ _ (λ _. each_none)
-        (λ h. each_some _ _ w (closed_covers (omega arith) refl refl (spell.call (omega arith) (spell.identifier refl tok) (spell.arguments open' (held_group raw_argument x h) close)))))))
+      (λ h. each_some _ _ w (closed_covers (omega arith) refl refl (spell.call (omega arith) (spell.identifier refl tok) (spell.arguments open' (held_group raw_argument x h) close)))))))
 
   -- behind a name
   pub named_each : (i : Bool) (x a b : Text) → IsUtf8 b → is_reserved x ≡ false → Word x a b → Each (λ f c. Covers i 0 f a c) (named sub i x b)
@@ -153,6 +153,7 @@ module _ (sub : Goal → Text → Reading Found) (good : Good sub) where
     where
       plain : Each (λ e c. Link true o e a c) (dotted sub true o b)
       plain = each_weaker (dotted_each true o a b u (spell.optional_dot dot)) (λ e c x. spell.access_link x)
+
       go : (l : Option Lexeme) → lexeme b ≡ l → Each (λ e c. Link true o e a c) (optional_by sub o l b)
       go (Some (sign s)) is = let t = there b u _ is in
           each_if (is_text s (codes "[")) _ _

@@ -102,8 +102,8 @@ behind_default_each : (x a b : Text) → IsUtf8 b → is_reserved x ≡ false �
 unfolding behind_default
 behind_default_each x a b u free tok = each_if (sees (codes ",") b) _ _
     (λ is. let t = seen (codes ",") b u is in each_if (sees (codes "*") (after b)) _ _
-      (λ _. each_bind _ (namespace_each (after b) t.utf8) (λ n c v y. each_some _ _ v (module'.default_namespace free tok t.token y)))
-      (λ _. each_bind _ (imports_each (after b) t.utf8) (λ ts c v y. each_some _ _ v (module'.default_braced free tok t.token y))))
+    (λ _. each_bind _ (namespace_each (after b) t.utf8) (λ n c v y. each_some _ _ v (module'.default_namespace free tok t.token y)))
+    (λ _. each_bind _ (imports_each (after b) t.utf8) (λ ts c v y. each_some _ _ v (module'.default_braced free tok t.token y))))
     (λ _. each_some _ _ u (module'.default_clause free tok))
 
 clause_each : (a : Text) → IsUtf8 a → Each (λ ts b. ImportClause ts a b) (import_clause a)
@@ -204,8 +204,10 @@ export_pairs_each a b u tok = each_bind _ (pairs_each b u) (λ ps c v x. each_if
   where
     indirect : (ps : List Pair) {c d e : Text} {source : Text} → PairsAt ps b c → From source c d → Semicolon plain d e → ModuleItem (of_parts Kind.ExportFromDeclaration (list (all (indirect_specifiers ps))) (string_of source)) a e
     indirect ps (pairs_at open' h close) y end = module'.export_from tok (module'.braced open' (held_specifiers (indirect_held h)) close) y end
+
     local_item : (ps : List Pair) (us : List Term) {c d : Text} → PairsAt ps b c → local_specifiers ps ≡ Some us → Semicolon exports c d → ModuleItem (of_list Kind.ExportNamedDeclaration (all us)) a d
     local_item ps us (pairs_at open' h close) is end = module'.export_named tok (module'.braced open' (held_specifiers (local_held h us is)) close) end
+
     local : (ps : List Pair) (c : Text) → IsUtf8 c → PairsAt ps b c → (o : Option (List Term)) → local_specifiers ps ≡ o → Each (λ t d. ModuleItem t a d) (exports_by o c)
     local ps c v x None is = each_none
     local ps c v x (Some us) is = each_bind _ (semicolon_each exports c v) (λ _ d w end. each_some _ _ w (local_item ps us x is end))
@@ -275,9 +277,9 @@ module _ (sub : Goal → Text → Reading Found) (good : Good sub) where
       each_if (is_text x (codes "function")) _ _ (λ e. each_weaker (function_each sub good Kind.FunctionDeclaration [] a a (after a) t.utf8 spell.no_async (as_word (codes "function") e t.token)) (λ f b y. module'.default_function y)) (λ nf.
       each_if (is_text x (codes "async") && begins_async_function (after a)) _ _
       (λ h. let (e, on) = and_parts (is_text x (codes "async")) (begins_async_function (after a)) h in
-        let (line, f) = and_parts (same_line (after a)) (sees_word (codes "function") (after a)) on in
-        let o = seen_word (codes "function") (after a) t.utf8 f in
-        each_weaker (function_each sub good Kind.FunctionDeclaration (codes "async") a (after a) (after (after a)) o.utf8 (spell.with_async (as_word (codes "async") e t.token) (on_same_line (after a) line)) o.token) (λ f b y. module'.default_function y)) (λ na.
+      let (line, f) = and_parts (same_line (after a)) (sees_word (codes "function") (after a)) on in
+      let o = seen_word (codes "function") (after a) t.utf8 f in
+      each_weaker (function_each sub good Kind.FunctionDeclaration (codes "async") a (after a) (after (after a)) o.utf8 (spell.with_async (as_word (codes "async") e t.token) (on_same_line (after a) line)) o.token) (λ f b y. module'.default_function y)) (λ na.
       each_if (is_text x (codes "class")) _ _ (λ e. each_weaker (class_each sub good Kind.ClassDeclaration a (after a) t.utf8 (as_word (codes "class") e t.token)) (λ f b y. module'.default_class y))
       (λ nc. default_expression_each a u (word_no_definition x a is nf nc na))))
 
@@ -306,9 +308,9 @@ module _ (sub : Goal → Text → Reading Found) (good : Good sub) where
       each_if (is_text x (codes "function")) _ _ (λ e. function_declaration_each sub good [] a a (after a) t.utf8 spell.no_async (as_word (codes "function") e t.token)) (λ _.
       each_if (is_text x (codes "async") && begins_async_function (after a)) _ _
       (λ h. let (e, on) = and_parts (is_text x (codes "async")) (begins_async_function (after a)) h in
-        let (line, f) = and_parts (same_line (after a)) (sees_word (codes "function") (after a)) on in
-        let o = seen_word (codes "function") (after a) t.utf8 f in
-        function_declaration_each sub good (codes "async") a (after a) (after (after a)) o.utf8 (spell.with_async (as_word (codes "async") e t.token) (on_same_line (after a) line)) o.token) (λ _.
+      let (line, f) = and_parts (same_line (after a)) (sees_word (codes "function") (after a)) on in
+      let o = seen_word (codes "function") (after a) t.utf8 f in
+      function_declaration_each sub good (codes "async") a (after a) (after (after a)) o.utf8 (spell.with_async (as_word (codes "async") e t.token) (on_same_line (after a) line)) o.token) (λ _.
       each_if (is_text x (codes "class")) _ _ (λ e. class_declaration_each sub good a (after a) t.utf8 (as_word (codes "class") e t.token)) (λ _. each_none))))
 
   exported_declaration_each : (x a b : Text) → IsUtf8 b → Word (codes "export") a b → lexeme b ≡ Some (word x) → Each (λ t c. ModuleItem t a c) (exported_declaration sub x b)
@@ -342,6 +344,7 @@ module _ (sub : Goal → Text → Reading Found) (good : Good sub) where
     where
       other : Each (λ t c. ModuleItem t a c) (if sees (codes "(") b || sees (codes ".") b then inner sub a else import_from b)
       other = each_if (sees (codes "(") b || sees (codes ".") b) _ _ (λ _. each_weaker (inner_each sub good a u) (λ s c x. module'.statement x)) (λ _. import_from_each a b v tok)
+
       go : (o : Option Lexeme) → Each (λ t c. ModuleItem t a c) (import_by sub o b a)
       go (Some (string x w)) = bare_import_each a b v tok
       go None = other
@@ -362,6 +365,7 @@ module _ (sub : Goal → Text → Reading Found) (good : Good sub) where
     where
       statement : Each (λ t b. ModuleItem t a b) (inner sub a)
       statement = each_weaker (inner_each sub good a u) (λ s c x. module'.statement x)
+
       go : (o : Option Lexeme) → lexeme a ≡ o → Each (λ t b. ModuleItem t a b) (item_by sub o a)
       go (Some (word x)) is = let t = there a u _ is in
           each_if (is_text x (codes "import")) _ _ (λ e. import_each a (after a) u t.utf8 (as_word (codes "import") e t.token) (lexeme (after a))) (λ _.

@@ -40,9 +40,11 @@ pattern_from {i} {f} {a} {b} u c = go f.barred refl
     from : (t : Term) → Target i t a b → (o : Option Term) → pattern_of false t ≡ o → Each (λ p c. Pattern p a c) (tree_at o b)
     from t x None is = each_none
     from t x (Some p) is = each_some p b u (pattern_there x false p is)
+
     target : f.barred ≡ false → (o : Option Term) → target_of false f.tree ≡ o → Each (λ p c. Pattern p a c) (bound_in o b)
     target free None is = each_none
     target free (Some t) is = from t (c.target free t is) (pattern_of false t) refl
+
     go : (k : Bool) → f.barred ≡ k → Each (λ p c. Pattern p a c) (bound_in (if k then None else target_of false f.tree) b)
     go true is = each_none
     go false is = target is (target_of false f.tree) refl
@@ -222,7 +224,7 @@ module _ (sub : Goal → Text → Reading Found) (good : Good sub) where
   unfolding more_expressions
   more_expressions_each n e a b u s = each_if (sees (codes ",") b) _ _
       (λ is. let t = seen (codes ",") b u is in each_bind _ (listed_each sub good false (length (after b)) (e ∷ []) (after b) t.utf8) (λ es c v (new, whole, listed).
-        each_some _ _ v (spell.init_expression (subst (λ (z : List Term). Expression false (sequence_of (all z)) a c) (sym whole) (and_sequence s t.token listed)))))
+      each_some _ _ v (spell.init_expression (subst (λ (z : List Term). Expression false (sequence_of (all z)) a c) (sym whole) (and_sequence s t.token listed)))))
       (λ _. each_some _ _ u (spell.init_expression (spell.single s)))
 
   left_from : (f : Found) (a b : Text) → IsUtf8 b → Covers false 2 f a b → Each (λ h c. HeadFits a h c) (left_by (target_in f) b)
@@ -231,6 +233,7 @@ module _ (sub : Goal → Text → Reading Found) (good : Good sub) where
       target : f.barred ≡ false → (o : Option Term) → target_of false f.tree ≡ o → Each (λ h d. HeadFits a h d) (left_by o b)
       target free None is = each_none
       target free (Some t) is = each_some _ _ u (spell.left_target (c.target free t is))
+
       go : (k : Bool) → f.barred ≡ k → Each (λ h d. HeadFits a h d) (left_by (if k then None else target_of false f.tree) b)
       go true is = each_none
       go false is = target is (target_of false f.tree) refl
@@ -309,12 +312,13 @@ module _ (sub : Goal → Text → Reading Found) (good : Good sub) where
   unfolding for_statement
   for_each a b u tok = each_if (sees_word (codes "await") b) _ _
       (λ is. let t = seen_word (codes "await") b u is in
-        each_bind _ (expect_each (codes "(") (after b) t.utf8) (λ _ c v open'. each_bind _ (head_each c v) (λ h d w x. awaited h t.token open' w x)))
+      each_bind _ (expect_each (codes "(") (after b) t.utf8) (λ _ c v open'. each_bind _ (head_each c v) (λ h d w x. awaited h t.token open' w x)))
       (λ _. each_bind _ (expect_each (codes "(") b u) (λ _ c v open'. each_bind _ (head_each c v) (λ h d w x. not_awaited h open' w x)))
     where
       awaited : (h : Head) {c d e : Text} → Word (codes "await") b c → Sign (codes "(") c d → IsUtf8 e → HeadFits d h e → Each (λ s f. Statement s a f) (for_await_by sub h e)
       awaited (initial t) wait open' u x = each_none
       awaited (repeated t) {c} {d} {e} wait open' u x = each_bind _ (expect_word_each (codes "of") e u) (λ _ f v tok'. await_each t a b c d e f v tok wait open' x tok')
+
       not_awaited : (h : Head) {c d : Text} → Sign (codes "(") b c → IsUtf8 d → HeadFits c h d → Each (λ s e. Statement s a e) (for_by sub h d)
       not_awaited (initial t) {c} {d} open' u x = plain_each t a b c d u tok open' x
       not_awaited (repeated t) {c} {d} open' u x = repeated_each t a b c d u tok open' x
@@ -372,11 +376,11 @@ module _ (sub : Goal → Text → Reading Found) (good : Good sub) where
   unfolding handler catch_clause
   handler_each a u = each_if (sees_word (codes "catch") a) _ _
       (λ is. let t = seen_word (codes "catch") a u is in each_if (sees (codes "(") (after a)) _ _
-        (λ is'. let o = seen (codes "(") (after a) t.utf8 is' in
-          each_bind _ (bound_each sub good (after (after a)) o.utf8) (λ p b v x.
-          each_bind _ (expect_each (codes ")") b v) (λ _ c w close.
-          each_bind _ (block_each c w) (λ s d y z. each_some _ _ y (spell.handler t.token o.token x close z)))))
-        (λ _. each_bind _ (block_each (after a) t.utf8) (λ s b v x. each_some _ _ v (spell.bare_handler t.token x))))
+      (λ is'. let o = seen (codes "(") (after a) t.utf8 is' in
+      each_bind _ (bound_each sub good (after (after a)) o.utf8) (λ p b v x.
+      each_bind _ (expect_each (codes ")") b v) (λ _ c w close.
+      each_bind _ (block_each c w) (λ s d y z. each_some _ _ y (spell.handler t.token o.token x close z)))))
+      (λ _. each_bind _ (block_each (after a) t.utf8) (λ s b v x. each_some _ _ v (spell.bare_handler t.token x))))
       (λ _. each_some absent a u spell.no_handler)
 
   finalizer_each : (a : Text) → IsUtf8 a → Each (λ f b. Finalizer f a b) (finalizer sub a)
@@ -396,7 +400,7 @@ module _ (sub : Goal → Text → Reading Found) (good : Good sub) where
   unfolding plain_statement labeled
   plain_statement_each x a u is brace free = let t = there a u _ is in each_if (not (is_reserved x) && sees (codes ":") (after a)) _ _
       (λ h. let (unreserved, colon) = and_parts (not (is_reserved x)) (sees (codes ":") (after a)) h in let o = seen (codes ":") (after a) t.utf8 colon in
-        each_bind _ (embedded_each (after (after a)) o.utf8) (λ s b v y. each_some _ _ v (spell.labeled (not_true _ unreserved) t.token o.token y)))
+      each_bind _ (embedded_each (after (after a)) o.utf8) (λ s b v y. each_some _ _ v (spell.labeled (not_true _ unreserved) t.token o.token y)))
       (λ _. effect_each a u brace free)
 
   jump_each : (k : Kind) (w a b : Text) → IsUtf8 b → ((l : Term) (c d : Text) → Label l b c → Semicolon plain c d → Statement (of_part k l) a d) → Each (λ s c. Statement s a c) (jump sub k b)
@@ -429,9 +433,9 @@ module _ (sub : Goal → Text → Reading Found) (good : Good sub) where
       each_if (is_text x (codes "function")) _ _ (λ e. each_weaker (function_declaration_each [] a a (after a) t.utf8 spell.no_async (as_word (codes "function") e t.token)) (λ s b y. spell.declaration y)) (λ nf.
       each_if (is_text x (codes "async") && begins_async_function (after a)) _ _
       (λ h. let (e, on) = and_parts (is_text x (codes "async")) (begins_async_function (after a)) h in
-        let (line, f) = and_parts (same_line (after a)) (sees_word (codes "function") (after a)) on in
-        let o = seen_word (codes "function") (after a) t.utf8 f in
-        each_weaker (function_declaration_each (codes "async") a (after a) (after (after a)) o.utf8 (spell.with_async (as_word (codes "async") e t.token) (on_same_line (after a) line)) o.token) (λ s b y. spell.declaration y)) (λ na.
+      let (line, f) = and_parts (same_line (after a)) (sees_word (codes "function") (after a)) on in
+      let o = seen_word (codes "function") (after a) t.utf8 f in
+      each_weaker (function_declaration_each (codes "async") a (after a) (after (after a)) o.utf8 (spell.with_async (as_word (codes "async") e t.token) (on_same_line (after a) line)) o.token) (λ s b y. spell.declaration y)) (λ na.
       each_if (is_text x (codes "class")) _ _ (λ e. each_weaker (class_declaration_each a (after a) t.utf8 (as_word (codes "class") e t.token)) (λ s b y. spell.declaration y))
       (λ nc. other_each x a u is (sees_none (codes "{") a _ is refl) (word_no_definition x a is nf nc na)))))
 

@@ -64,8 +64,8 @@ module _ (sub : Goal → Text → Reading Found) where
   parameter_items (suc n) found a =
       if sees (codes "...") a then (bound (after a) >>= λ p b. Some (rest_last found p, b))
       else (parameter a >>= λ p b.
-        if sees (codes ",") b then (if sees (codes ")") (after b) then Some (no_rest (found ++ p ∷ []) true, after b) else parameter_items n (found ++ p ∷ []) (after b))
-        else Some (no_rest (found ++ p ∷ []) false, b))
+      if sees (codes ",") b then (if sees (codes ")") (after b) then Some (no_rest (found ++ p ∷ []) true, after b) else parameter_items n (found ++ p ∷ []) (after b))
+      else Some (no_rest (found ++ p ∷ []) false, b))
 
   unfoldable pub parameter_list : Text → Reading Parameters
   parameter_list a = if sees (codes ")") a then Some (no_rest [] false, a) else parameter_items (length a) [] a

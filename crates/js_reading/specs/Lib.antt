@@ -8,3 +8,5 @@ pub mod Expressions
 pub mod Statements
 pub mod Modules
 pub mod Read
+pub mod Laws
+pub mod Examples

@@ -59,7 +59,7 @@ default_import x = of_part Kind.ImportDefaultSpecifier (binding_of x)
 unfoldable pub behind_default : Text → Text → Reading (List Term)
 behind_default x a =
     if sees (codes ",") a then
-      (if sees (codes "*") (after a) then (namespace (after a) >>= λ n b. Some (default_import x ∷ n ∷ [], b)) else imports (after a) >>= λ ts b. Some (default_import x ∷ ts, b))
+    (if sees (codes "*") (after a) then (namespace (after a) >>= λ n b. Some (default_import x ∷ n ∷ [], b)) else imports (after a) >>= λ ts b. Some (default_import x ∷ ts, b))
     else Some (default_import x ∷ [], a)
 
 unfoldable pub import_clause : Text → Reading (List Term)

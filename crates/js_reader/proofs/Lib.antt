@@ -1,0 +1,2 @@
+pub mod Punctuators
+pub mod Summing

@@ -1,0 +1,77 @@
+//! What is found.
+
+ghost use Rattle.std.specs.Prelude.{◌≡◌};
+ghost use Rattle.js_reading.specs.Reading as spec;
+ghost use Rattle.js_reader.specs.Reads.{found_of};
+ghost use Rattle.js_reader.specs.Summed.{listing_of, nothing_yet};
+ghost use Rattle.js_tree.specs.TermOf.{term};
+
+use js_items::Items;
+use js_tree::Node;
+use std::alloc::Global;
+
+/// A tree, and the level of an expression (ECMAScript 13.2 to 13.15).
+#[derive(Drop)]
+pub struct Found {
+    pub node: Node,
+    pub level: u8,
+    /// Whether it is no expression but may become a pattern: a shorthand in it has an initializer (13.2.5.1).
+    pub cover: bool,
+    /// Whether it may become no pattern: a comma stands behind a spread in it.
+    pub barred: bool,
+}
+
+impl Found {
+    /// An expression that is neither.
+    pub fn closed(node: Node, level: u8) -> Found
+        ensures { found_of result ≡ spec.closed (term node) level }
+    {
+        Found {
+            node,
+            level,
+            cover: false,
+            barred: false,
+        }
+    }
+}
+
+/// What a list is of, with commas between.
+#[derive(Clone, Copy)]
+pub enum Listed {
+    /// What stands in parentheses: expressions, or what may become parameters.
+    Parenthesized,
+    /// Elements of an array, and elisions (13.2.4).
+    Element,
+    /// Arguments of a call (13.3).
+    Argument,
+}
+
+/// The items of a list, and what holds of any of them or of the last.
+#[derive(Drop)]
+pub struct Listing {
+    pub items: Items<Node>,
+    pub cover: bool,
+    pub barred: bool,
+    /// Whether one of them is a spread.
+    pub spread: bool,
+    /// Whether the last one is.
+    pub last: bool,
+    /// Whether a comma stands behind.
+    pub comma: bool,
+}
+
+impl Listing {
+    /// A list of nothing.
+    pub fn new(alloc: Global) -> Listing
+        ensures { listing_of result ≡ nothing_yet }
+    {
+        Listing {
+            items: Items::new(alloc),
+            cover: false,
+            barred: false,
+            spread: false,
+            last: false,
+            comma: false,
+        }
+    }
+}

@@ -1,0 +1,12 @@
+//! The reader of modules. What reads the parts of a part is handed down, so that no function here calls itself.
+#![tactic(auto)]
+
+mod edge;
+mod fault;
+mod found;
+mod tokens;
+
+pub use edge::Edge;
+pub use fault::Halt;
+pub use found::{Found, Listed, Listing};
+pub use tokens::{binding, expect, expect_word, name, sees, sees_word};

@@ -1,0 +1,126 @@
+-- With what the text of a statement begins, and what may follow one.
+use Rattle.std.proofs.Common.{◌≡◌, ◌≤◌, ◌<◌, ℕ, suc, Bool, true, false, not, ◌&&◌, ◌||◌, if◌then◌else◌, List, [], ◌∷◌, length, map, Option, Some, None, refl, sym, subst, ◌∙◌, ap, arith, codes}
+use Rattle.std.specs.List.{list_all}
+use Rattle.std.specs.Str.{IsUtf8}
+use Rattle.std.proofs.lemmas.Bool.{false≢true, not-true}
+use Rattle.js_term.specs.Term.{Text, is_text, Term, depth}
+use Rattle.js_term.specs.Lexeme.{is_one_of}
+use Rattle.js_syntax.specs.Printable.{ends_open}
+use Rattle.js_syntax.specs.Tokens.{Lexeme, word, private_name, number, big_integer, string, no_substitution, template_head, sign, regexp, template_middle, template_tail}
+use Rattle.js_syntax.proofs.Fronts.{same_text}
+use Rattle.js_tokens.specs.Next.{lexeme, after}
+use Rattle.js_reading.specs.Reading.{Reading, is_sign, is_word, sees, sees_word, at_end}
+use Rattle.js_reading.specs.Statements.{statement}
+use Rattle.js_reading.specs.Read.{read}
+use Rattle.js_reading.proofs.Each.{is_end as at_its_end}
+use Rattle.js_reading.proofs.TokensThere.{Seen, see_sign, sees_by, sees_word_by}
+use Rattle.js_reading.proofs.TokensEnd.{end_lexeme}
+use Rattle.js_reading.proofs.Opens.{begins, begins_by}
+
+-- the words that begin a statement and no expression
+abbrev pub statement_words : List Text
+statement_words = map codes ("var" ∷ "let" ∷ "const" ∷ "if" ∷ "do" ∷ "while" ∷ "for" ∷ "continue" ∷ "break" ∷ "return" ∷ "switch" ∷ "throw" ∷ "try" ∷ "debugger" ∷ [])
+
+abbrev pub starts_by : Lexeme → Bool
+starts_by (word x) = begins_by (word x) || is_one_of x statement_words
+starts_by (sign s) = begins_by (sign s) || is_text s (codes ";")
+starts_by l = begins_by l
+
+abbrev pub starts : Option Lexeme → Bool
+starts None = false
+starts (Some l) = starts_by l
+
+start_sign : (s : Text) (o : Option Lexeme) → starts o ≡ true → starts_by (sign s) ≡ false → is_sign s o ≡ false
+start_sign s None h other = refl
+start_sign s (Some (sign t)) h other = go (is_text t s) refl
+  where
+    go : (b : Bool) → is_text t s ≡ b → is_text t s ≡ false
+    go false e = e
+    go true e = absurd (false≢true (sym other ∙ ap (λ z. starts_by (sign z)) (sym (same_text t s e)) ∙ h))
+start_sign s (Some (word x)) h other = refl
+start_sign s (Some (private_name x)) h other = refl
+start_sign s (Some (number x)) h other = refl
+start_sign s (Some (big_integer x)) h other = refl
+start_sign s (Some (string x v)) h other = refl
+start_sign s (Some (regexp x v)) h other = refl
+start_sign s (Some (no_substitution x)) h other = refl
+start_sign s (Some (template_head x)) h other = refl
+start_sign s (Some (template_middle x)) h other = refl
+start_sign s (Some (template_tail x)) h other = refl
+
+start_word : (x : Text) (o : Option Lexeme) → starts o ≡ true → starts_by (word x) ≡ false → is_word x o ≡ false
+start_word x None h other = refl
+start_word x (Some (word y)) h other = go (is_text y x) refl
+  where
+    go : (b : Bool) → is_text y x ≡ b → is_text y x ≡ false
+    go false e = e
+    go true e = absurd (false≢true (sym other ∙ ap (λ z. starts_by (word z)) (sym (same_text y x e)) ∙ h))
+start_word x (Some (sign s)) h other = refl
+start_word x (Some (private_name y)) h other = refl
+start_word x (Some (number y)) h other = refl
+start_word x (Some (big_integer y)) h other = refl
+start_word x (Some (string y v)) h other = refl
+start_word x (Some (regexp y v)) h other = refl
+start_word x (Some (no_substitution y)) h other = refl
+start_word x (Some (template_head y)) h other = refl
+start_word x (Some (template_middle y)) h other = refl
+start_word x (Some (template_tail y)) h other = refl
+
+-- no statement begins with this sign, with this word
+pub starts_no_sign : (s a : Text) → starts (lexeme a) ≡ true → starts_by (sign s) ≡ false → sees s a ≡ false
+unfolding sees
+starts_no_sign s a h other = start_sign s (lexeme a) h other
+
+pub starts_no_word : (x a : Text) → starts (lexeme a) ≡ true → starts_by (word x) ≡ false → sees_word x a ≡ false
+unfolding sees_word
+starts_no_word x a h other = start_word x (lexeme a) h other
+
+pub starts_no_end : (a : Text) → starts (lexeme a) ≡ true → at_end a ≡ false
+starts_no_end a h = go (at_end a) refl
+  where
+    go : (b : Bool) → at_end a ≡ b → at_end a ≡ false
+    go false e = e
+    go true e = absurd (false≢true (sym (ap starts (end_lexeme a (at_its_end a e))) ∙ h))
+
+-- what begins an expression begins a statement
+pub begins_starts : (o : Option Lexeme) → begins o ≡ true → starts o ≡ true
+begins_starts None h = absurd (false≢true h)
+begins_starts (Some (word x)) h = left (begins_by (word x)) (is_one_of x statement_words) h
+  where
+    left : (p q : Bool) → p ≡ true → (p || q) ≡ true
+    left true q h = refl
+    left false q h = absurd (cc)
+begins_starts (Some (sign s)) h = left (begins_by (sign s)) (is_text s (codes ";")) h
+  where
+    left : (p q : Bool) → p ≡ true → (p || q) ≡ true
+    left true q h = refl
+    left false q h = absurd (cc)
+begins_starts (Some (private_name x)) h = h
+begins_starts (Some (number x)) h = h
+begins_starts (Some (big_integer x)) h = h
+begins_starts (Some (string x v)) h = h
+begins_starts (Some (regexp x v)) h = h
+begins_starts (Some (no_substitution x)) h = h
+begins_starts (Some (template_head x)) h = h
+begins_starts (Some (template_middle x)) h = h
+begins_starts (Some (template_tail x)) h = h
+
+-- What comes behind a statement goes on with no declaration.
+pub record Follows (b : Text) : Type 0 where
+  pub no_comma : sees (codes ",") b ≡ false
+  pub no_equals : sees (codes "=") b ≡ false
+
+pub starts_follow : (b : Text) → starts (lexeme b) ≡ true → Follows b
+starts_follow b h = record { no_comma = starts_no_sign (codes ",") b h refl; no_equals = starts_no_sign (codes "=") b h refl }
+
+-- a token other than these
+pub token_follows : {l : Lexeme} {b c : Text} → Seen l b c → is_sign (codes ",") (Some l) ≡ false → is_sign (codes "=") (Some l) ≡ false → Follows b
+token_follows x h h' = record { no_comma = sees_by (codes ",") x ∙ h; no_equals = sees_by (codes "=") x ∙ h' }
+
+-- A statement is read before what goes on with none, and before no `else` where it ends in an `if` without one.
+pub record IsReadStatement (s : Term) (a b : Text) : Type 0 where
+  pub utf8 : IsUtf8 b
+  pub shorter : length b < length a
+  pub begun : starts (lexeme a) ≡ true
+  pub deep : 0 < depth s
+  pub reads : (limit : ℕ) → depth s ≤ suc limit → Follows b → (sees_word (codes "else") b && ends_open s) ≡ false → statement (read limit) a ≡ Some (s, b)
