@@ -39,3 +39,4 @@ pub mod Completing
 pub mod Ending
 pub mod StatementStarts
 pub mod StatementsThere
+pub mod Joining
