@@ -1,14 +1,14 @@
 -- An expression whose tree begins with no definition has a text that begins with none, where none goes on behind it.
-use Rattle.std.proofs.Common.{◌≡◌, ℕ, Bool, true, false, not, ◌&&◌, ◌||◌, List, [], ◌∷◌, Option, Some, None, refl, sym, subst, ◌∙◌, ap, codes}
+use Rattle.std.proofs.Common.{◌≡◌, ℕ, Bool, true, false, not, List, [], ◌∷◌, Option, Some, None, refl, sym, subst, ◌∙◌, ap, codes}
 use Rattle.std.specs.Str.{IsUtf8}
 use Rattle.std.specs.List.{list_all}
 use Rattle.std.proofs.lemmas.Bool.{false≢true, not-true, and_right}
 use Rattle.js_term.specs.Term.{Text, is_text, Term, node, none, all}
 use Rattle.js_term.specs.declared.kind.Kind.{Kind}
 use Rattle.js_term.specs.Lexeme.{is_reserved}
-use Rattle.js_term.specs.Node.{truth, sequence_of}
-use Rattle.js_syntax.specs.Tokens.{Lexeme, word, sign, no_substitution, template_head, regexp, Token, Word, Sign}
-use Rattle.js_syntax.specs.Edges.{is_word_operator, leftmost, begins_with_definition}
+use Rattle.js_term.specs.Node.{truth}
+use Rattle.js_syntax.specs.Tokens.{Lexeme, word, sign, regexp, Token, Word, Sign}
+use Rattle.js_syntax.specs.Edges.{leftmost, begins_with_definition}
 use Rattle.js_syntax.specs.Spelling as spell
 use Rattle.js_syntax.specs.Spelling.{Stands, Target, Expression, Listed, Access, Link, Spine, BareNew, Template, FunctionText, ClassText, ArrowHead, Operator, Arguments}
 use Rattle.js_syntax.proofs.Fronts.{same_text, among}
@@ -16,7 +16,7 @@ use Rattle.js_tokens.specs.Looks.{is_div_lexeme}
 use Rattle.js_tokens.specs.Next.{lexeme, after}
 use Rattle.js_reading.specs.Reading.{is_word, sees_word, same_line}
 use Rattle.js_reading.specs.Statements.{begins_async_function}
-use Rattle.js_reading.proofs.TokensThere.{Seen, see, see_sign, see_word, sees_word_by, slash_there, is_slash_sign}
+use Rattle.js_reading.proofs.TokensThere.{Seen, see, see_word, sees_word_by, slash_there, is_slash_sign}
 use Rattle.js_reading.proofs.Opens.{begins_definition}
 use Rattle.js_reading.proofs.Leaves.{not_text}
 
