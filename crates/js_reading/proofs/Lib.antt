@@ -39,3 +39,4 @@ pub mod StatementsThere
 pub mod Fields
 pub mod Completing
 pub mod Endings
+pub mod Joining
