@@ -38,5 +38,5 @@ pub mod StatementStarts
 pub mod StatementsThere
 pub mod Fields
 pub mod Completing
-pub mod Endings
+pub mod Ending
 pub mod Joining

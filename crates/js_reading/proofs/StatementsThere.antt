@@ -28,7 +28,7 @@ use Rattle.js_reading.proofs.Lists.{is_end, ending_end, sees_sign}
 use Rattle.js_reading.proofs.Listings.{IsReadExpression, expression_before}
 use Rattle.js_reading.proofs.Follows.{Ends}
 use Rattle.js_reading.proofs.Claims.{IsReadStatements}
-use Rattle.js_reading.proofs.Endings.{ended_holds, ended_comma}
+use Rattle.js_reading.proofs.Ending.{behind_semicolon}
 use Rattle.js_reading.proofs.Opens.{begins, no_sign_there}
 use Rattle.js_reading.proofs.StatementStarts.{starts, begins_starts, starts_no_end, starts_no_sign, starts_no_word, Follows, starts_follow, token_follows, IsReadStatement}
 
@@ -246,7 +246,7 @@ pub record IsReadEnding (e : Term) (a c : Text) : Type 0 where
 
 ending_reads : {n : ℕ} {e : Term} {a b c : Text} (limit : ℕ) → IsReadExpression true e a b → Ends n (edge e) → Semicolon (edge e) b c → depth e ≤ limit → ended (read limit) a ≡ Some (e, c)
 unfolding ended
-ending_reads limit x ends end fits = let k = ended_at end x.utf8 in rw (x.reads limit fits (ended_holds true 1 k x.utf8 ends) (ended_comma k ends), semicolon_read end x.utf8)
+ending_reads limit x ends end fits = let k = behind_semicolon x.utf8 ends (ended_at end x.utf8) in rw (x.reads limit fits k.keeps k.no_comma, semicolon_read end x.utf8)
 
 pub ending_read : {n : ℕ} {e : Term} {a b c : Text} → begins (lexeme a) ≡ true → IsReadExpression true e a b → Ends n (edge e) → Semicolon (edge e) b c → IsReadEnding e a c
 ending_read begun x ends end = record {
