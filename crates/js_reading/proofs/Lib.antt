@@ -26,3 +26,6 @@ pub mod Operations
 pub mod Prefixes
 pub mod Listings
 pub mod Claims
+pub mod Keys
+pub mod Functions
+pub mod Properties
