@@ -18,7 +18,7 @@ use Rattle.js_reading.specs.Functions.{star, method_function}
 use Rattle.js_reading.specs.Literals.{modifies_method, is_accessor, takes_comma, method_property, pair_found, shorthand_found, marked_method, accessor_property, valued, behind_key, shorthand, named_property, property_item}
 use Rattle.js_reading.specs.Read.{read}
 use Rattle.js_reading.proofs.TokensThere.{Seen, sees_by}
-use Rattle.js_reading.proofs.Lists.{is_closing, is_end, sees_sign, ReadsItem, some_item}
+use Rattle.js_reading.proofs.Lists.{is_closing, is_ending, is_end, sees_sign, ReadsItem, some_item}
 use Rattle.js_reading.proofs.Climbs.{whole, IsRead}
 use Rattle.js_reading.proofs.Listings.{StandsRead, FoundItem, found_expression}
 use Rattle.js_reading.proofs.Keys.{IsReadMemberKey, IsReadKey}
@@ -121,4 +121,162 @@ property_read {n} {computed} {k} {e} {a} {b} opens x tok y = let r = y.read in l
   reads = λ limit fits. some_item false (let s1 = m.shorter in let s2 = tok.shorter in let s3 = r.shorter in omega arith) (opens_closes opens)
     (λ h. key_behind opens x limit (omega arith) (colon_key (codes ":") b tok.lexeme_is refl) (sees_by (codes "*") tok) (ap (λ v. v || sees (codes "(") b) (sees_by (codes ":") tok)) ∙ value_there computed k tok y limit (omega arith) h)
     (λ h. absurd (false≢true h));
+}
+
+-- ---- methods
+
+method_behind : (computed : Bool) (k : Term) {f : Term} {a b : Text} → IsReadMethod true [] [] f a b → (limit : ℕ) → depth f ≤ suc limit → behind_key (read limit) (computed, k) a ≡ Some (method_property (codes "init") true (computed, k) f, b)
+unfolding behind_key sees
+method_behind computed k x limit fits = rw (x.opens, x.reads limit fits)
+
+paren_sees : (a : Text) → lexeme a ≡ Some (sign (codes "(")) → sees (codes ":") a || sees (codes "(") a ≡ true
+unfolding sees
+paren_sees a is = rw is
+
+paren_no_star : (a : Text) → lexeme a ≡ Some (sign (codes "(")) → sees (codes "*") a ≡ false
+unfolding sees
+paren_no_star a is = rw is
+
+pub method_property_read : {computed : Bool} {k f : Term} {a b c : Text} → KeyOpens computed k a b → IsReadKey computed k a b → IsReadMethod true [] [] f b c → FoundItem property_of false (property (codes "init") true false computed k f) a c
+method_property_read {computed} {k} {f} {a} {b} opens x y = let m = x.member in record {
+  found = method_property (codes "init") true (computed, k) f;
+  tree_is = refl;
+  cover_is = refl;
+  utf8 = y.utf8;
+  reads = λ limit fits. some_item false (let s1 = m.shorter in let s2 = y.shorter in omega arith) (opens_closes opens)
+    (λ h. key_behind opens x limit (omega arith) (colon_key (codes "(") b y.opens refl) (paren_no_star b y.opens) (paren_sees b y.opens) ∙ method_behind computed k y limit (omega arith))
+    (λ h. absurd (false≢true h));
+}
+
+-- a method with marks
+marked_there : (async s : Text) {computed : Bool} {k f : Term} {a b c : Text} → IsReadKey computed k a b → IsReadMethod true async s f b c → (limit : ℕ) → depth k ≤ limit → depth f ≤ suc limit → marked_method (read limit) async s a ≡ Some (method_property (codes "init") true (computed, k) f, c)
+unfolding marked_method
+marked_there async s x y limit fits fits' = rw (x.reads limit fits, y.reads limit fits')
+
+generator_there : (sub : Goal → Text → Reading Found) {a b : Text} → Seen (sign (codes "*")) a b → property_item sub a ≡ marked_method sub [] (codes "*") b
+unfolding property_item
+generator_there sub tok = rw (tok.lexeme_is, tok.after_is)
+
+pub generator_property_read : {computed : Bool} {k f : Term} {a b c d : Text} → Seen (sign (codes "*")) a b → IsReadKey computed k b c → IsReadMethod true [] (codes "*") f c d → FoundItem property_of false (property (codes "init") true false computed k f) a d
+generator_property_read {computed} {k} {f} tok x y = let m = x.member in record {
+  found = method_property (codes "init") true (computed, k) f;
+  tree_is = refl;
+  cover_is = refl;
+  utf8 = y.utf8;
+  reads = λ limit fits. some_item false (let s0 = tok.shorter in let s1 = m.shorter in let s2 = y.shorter in omega arith) (ap is_closing tok.lexeme_is)
+    (λ h. generator_there (read limit) tok ∙ marked_there [] (codes "*") x y limit (omega arith) (omega arith))
+    (λ h. absurd (false≢true h));
+}
+
+async_there : (sub : Goal → Text → Reading Found) {s a b c : Text} → Seen (word (codes "async")) a b → modifies_method b ≡ true → IsReadStar s b c → property_item sub a ≡ marked_method sub (codes "async") s c
+unfolding property_item named_property
+async_there sub tok h x = rw (tok.lexeme_is, tok.after_is, h, x.reads)
+
+-- behind `async`
+pub modifies_plain : (b : Text) → same_line b ≡ true → begins_key_at b ≡ true → modifies_method b ≡ true
+unfolding modifies_method
+modifies_plain b line h = rw (line, h)
+
+pub modifies_star : {b c : Text} → same_line b ≡ true → Seen (sign (codes "*")) b c → modifies_method b ≡ true
+unfolding modifies_method begins_key_at sees
+modifies_star line tok = rw (line, tok.lexeme_is)
+
+pub async_property_read : {s : Text} {computed : Bool} {k f : Term} {a b c d e : Text} → Seen (word (codes "async")) a b → modifies_method b ≡ true → IsReadStar s b c → IsReadKey computed k c d → IsReadMethod true (codes "async") s f d e → FoundItem property_of false (property (codes "init") true false computed k f) a e
+async_property_read {s} {computed} {k} {f} tok h star x y = let m = x.member in record {
+  found = method_property (codes "init") true (computed, k) f;
+  tree_is = refl;
+  cover_is = refl;
+  utf8 = y.utf8;
+  reads = λ limit fits. some_item false (let s0 = tok.shorter in let s1 = m.shorter in let s2 = y.shorter in let s3 = star.short in omega arith) (ap is_closing tok.lexeme_is)
+    (λ h'. async_there (read limit) tok h star ∙ marked_there (codes "async") s x y limit (omega arith) (omega arith))
+    (λ h'. absurd (false≢true h'));
+}
+
+-- ---- accessors
+
+-- `get` and `set` are no `async`
+accessor_other : (x b : Text) → is_text x (codes "async") ≡ false → is_text x (codes "async") && modifies_method b ≡ false
+accessor_other x b h = rw h
+
+accessor_there : (sub : Goal → Text → Reading Found) {x a b : Text} → is_text x (codes "async") ≡ false → is_accessor x ≡ true → Seen (word x) a b → begins_key_at b ≡ true → property_item sub a ≡ accessor_property sub x b
+unfolding property_item named_property
+accessor_there sub h h' tok is = rw (tok.lexeme_is, tok.after_is, h, h', is)
+
+accessor_reads : (kind : Text) {computed : Bool} {k f : Term} {a b c : Text} → IsReadKey computed k a b → IsReadMethod (takes_comma kind) [] [] f b c → (limit : ℕ) → depth k ≤ limit → depth f ≤ suc limit → accessor_property (read limit) kind a ≡ Some (method_property kind false (computed, k) f, c)
+unfolding accessor_property
+accessor_reads kind x y limit fits fits' = rw (x.reads limit fits, y.reads limit fits')
+
+pub accessor_property_read : {kind : Text} {computed : Bool} {k f : Term} {a b c d : Text} → is_text kind (codes "async") ≡ false → is_accessor kind ≡ true → Seen (word kind) a b → IsReadKey computed k b c → IsReadMethod (takes_comma kind) [] [] f c d → FoundItem property_of false (property kind false false computed k f) a d
+accessor_property_read {kind} {computed} {k} {f} other is tok x y = let m = x.member in record {
+  found = method_property kind false (computed, k) f;
+  tree_is = refl;
+  cover_is = refl;
+  utf8 = y.utf8;
+  reads = λ limit fits. some_item false (let s0 = tok.shorter in let s1 = m.shorter in let s2 = y.shorter in omega arith) (ap is_closing tok.lexeme_is)
+    (λ h. accessor_there (read limit) other is tok m.begins ∙ accessor_reads kind x y limit (omega arith) (omega arith))
+    (λ h. absurd (false≢true h));
+}
+
+-- ---- spreads
+
+spread_there : (limit : ℕ) {n : ℕ} {e : Term} {p : Bool} {a b c : Text} → Seen (sign (codes "...")) a b → IsRead true (depth e) (whole e n p) b c → depth e ≤ limit → is_end (lexeme c) ≡ true → property_of limit a ≡ Some (whole (of_part Kind.SpreadElement e) 0 p, c)
+unfolding property_item spread
+spread_there limit tok r fits h = rw (tok.lexeme_is, tok.after_is, found_expression r limit fits h)
+
+pub spread_property_read : {n : ℕ} {e : Term} {a b c : Text} → Seen (sign (codes "...")) a b → StandsRead true n e b c → FoundItem property_of false (of_part Kind.SpreadElement e) a c
+spread_property_read {n} {e} tok x = let r = x.read in record {
+  found = whole (of_part Kind.SpreadElement e) 0 x.barred;
+  tree_is = refl;
+  cover_is = refl;
+  utf8 = x.utf8;
+  reads = λ limit fits. some_item false (let s1 = tok.shorter in let s2 = r.shorter in omega arith) (ap is_closing tok.lexeme_is)
+    (λ h. spread_there limit tok r (omega arith) h)
+    (λ h. absurd (false≢true h));
+}
+
+-- ---- shorthands
+
+end_no_sign : (s b : Text) → is_ending s ≡ false → is_end (lexeme b) ≡ true → sees s b ≡ false
+end_no_sign s b other h = go (sees s b) refl
+  where
+    go : (v : Bool) → sees s b ≡ v → sees s b ≡ false
+    go false is = is
+    go true is = absurd (false≢true (sym other ∙ sym (ap is_end (sees_sign s b is)) ∙ h))
+
+end_no_key : (b : Text) → is_end (lexeme b) ≡ true → begins_key_at b ≡ false
+unfolding begins_key_at
+end_no_key b h = go (lexeme b) h
+  where
+    bracket : (s : Text) (v : Bool) → is_text s (codes "[") ≡ v → is_ending s ≡ true → is_text s (codes "[") ≡ false
+    bracket s false is h = is
+    bracket s true is h = absurd (false≢true (ap is_ending (sym (same_text s (codes "[") is)) ∙ h))
+
+    go : (o : Option Lexeme) → is_end o ≡ true → begins_key_by o ≡ false
+    go (Some (sign s)) h = bracket s (is_text s (codes "[")) refl h
+    go (Some (string raw v)) h = absurd (false≢true h)
+    go (Some (number raw)) h = absurd (false≢true h)
+    go (Some (big_integer raw)) h = absurd (false≢true h)
+    go (Some (word x)) h = absurd (false≢true h)
+    go (Some (private_name x)) h = absurd (false≢true h)
+    go (Some (regexp x v)) h = absurd (false≢true h)
+    go (Some (no_substitution x)) h = absurd (false≢true h)
+    go (Some (template_head x)) h = absurd (false≢true h)
+    go (Some (template_middle x)) h = absurd (false≢true h)
+    go (Some (template_tail x)) h = absurd (false≢true h)
+    go None h = absurd (false≢true h)
+
+shorthand_there : (sub : Goal → Text → Reading Found) {x a b : Text} → is_reserved x ≡ false → Seen (word x) a b → sees (codes ":") b ≡ false → is_end (lexeme b) ≡ true → property_item sub a ≡ Some (shorthand_found x, b)
+unfolding property_item named_property shorthand
+shorthand_there sub {x} {b = b} free tok colon h = rw (
+  tok.lexeme_is, tok.after_is, unmarked x b (end_no_key b h) (end_no_sign (codes "*") b refl h), no_accessor x b (end_no_key b h),
+  colon, end_no_sign (codes "(") b refl h, free, end_no_sign (codes "=") b refl h)
+
+-- before a comma or the brace
+pub shorthand_read : {x a b : Text} → is_reserved x ≡ false → Seen (word x) a b → sees (codes ":") b ≡ false → FoundItem property_of false (property (codes "init") false true false (name_of x) (identifier_of x)) a b
+shorthand_read {x} free tok colon = record {
+  found = shorthand_found x;
+  tree_is = refl;
+  cover_is = refl;
+  utf8 = tok.utf8;
+  reads = λ limit fits. some_item false tok.shorter (ap is_closing tok.lexeme_is) (λ h. shorthand_there (read limit) free tok colon h) (λ h. absurd (false≢true h));
 }
