@@ -29,3 +29,4 @@ pub mod Claims
 pub mod Keys
 pub mod Functions
 pub mod Properties
+pub mod Classes
