@@ -40,3 +40,6 @@ pub mod Fields
 pub mod Completing
 pub mod Ending
 pub mod Joining
+pub mod Functions
+pub mod Properties
+pub mod Classes
