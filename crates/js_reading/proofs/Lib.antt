@@ -30,3 +30,4 @@ pub mod Keys
 pub mod Functions
 pub mod Properties
 pub mod Classes
+pub mod Elements
