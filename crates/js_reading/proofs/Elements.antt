@@ -2,17 +2,18 @@
 use Rattle.std.proofs.Common.{◌≡◌, ◌≤◌, ◌<◌, ℕ, zero, suc, Bool, true, false, not, ◌&&◌, ◌||◌, if◌then◌else◌, List, [], ◌∷◌, length, Option, Some, None, refl, sym, ◌∙◌, ap, arith, codes}
 use Rattle.std.specs.Str.{IsUtf8}
 use Rattle.js_term.specs.Term.{Text, is_text, Term, depth}
-use Rattle.js_syntax.specs.Nodes.{method_node}
+use Rattle.js_syntax.specs.Nodes.{method_node, field_node}
 use Rattle.js_syntax.specs.Tokens.{Lexeme, word, sign}
-use Rattle.js_syntax.specs.Edges.{is_constructor}
+use Rattle.js_syntax.specs.Edges.{is_constructor, edge, field_edge}
 use Rattle.js_tokens.specs.Next.{lexeme, after}
 use Rattle.js_reading.specs.declared.goal.Goal.{Goal}
-use Rattle.js_reading.specs.Reading.{Found, Reading, ◌>>=◌, sees, sees_word, begins_key_at}
-use Rattle.js_reading.specs.Literals.{modifies_method, modifies_element, is_accessor, takes_comma, element_function, word_element, marked_element, static_element, class_element}
+use Rattle.js_reading.specs.Reading.{Found, Reading, ◌>>=◌, sees, sees_word, begins_key_at, semicolon}
+use Rattle.js_reading.specs.Literals.{modifies_method, modifies_element, is_accessor, takes_comma, method_kind, element_function, field, plain_element, word_element, marked_element, static_element, class_element}
 use Rattle.js_reading.specs.Read.{read}
 use Rattle.js_reading.proofs.TokensThere.{Seen, sees_by, sees_word_by}
 use Rattle.js_reading.proofs.Keys.{IsReadMemberKey}
-use Rattle.js_reading.proofs.Functions.{IsReadStar, IsReadMethod}
+use Rattle.js_reading.proofs.Functions.{IsReadStar, IsReadMethod, IsReadInitializer}
+use Rattle.js_reading.proofs.Follows.{holds}
 use Rattle.js_reading.proofs.Classes.{IsReadElement}
 
 -- an element behind `static`, or where it is not static
@@ -104,3 +105,20 @@ accessor_element_read static {kind} h other is tok x y = record {
   modified = word_modifies tok;
   reads = λ limit fits. accessor_there (read limit) static other is tok x.begins ∙ function_there kind static (takes_comma kind) [] [] h x y limit (omega arith) (omega arith);
 }
+
+-- ---- elements without a mark
+
+pub plain_method_there : (static : Text) {computed : Bool} {k f : Term} {a b c : Text} → IsReadMemberKey computed k a b → IsReadMethod true [] [] f b c → (limit : ℕ) → depth k ≤ limit → depth f ≤ suc limit →
+    plain_element (read limit) static a ≡ Some (method_node (method_kind (is_constructor static computed k)) computed static k f, c)
+unfolding plain_element sees
+plain_method_there static x y limit fits fits' = rw (x.reads limit fits, y.opens, y.reads limit fits')
+
+pub plain_field_there : (static : Text) {computed : Bool} {k v : Term} {a b c d : Text} → IsReadMemberKey computed k a b → sees (codes "(") b ≡ false → IsReadInitializer true v b c → holds true (edge v) 1 c ≡ true → sees (codes "=") c ≡ false → semicolon (field_edge static computed k v) c ≡ Some (tt, d) →
+    (limit : ℕ) → depth k ≤ limit → depth v ≤ limit → plain_element (read limit) static a ≡ Some (field_node computed static k v, d)
+unfolding plain_element field
+plain_field_there static x open' y h h' end limit fits fits' = rw (x.reads limit fits, open', y.reads limit fits' h h', end)
+
+-- behind a word that is no mark
+pub word_plain : (sub : Goal → Text → Reading Found) (static : Text) {x a b : Text} → Seen (word x) a b → is_text x (codes "async") && modifies_method b ≡ false → is_accessor x && begins_key_at b ≡ false → marked_element sub static a ≡ plain_element sub static a
+unfolding marked_element word_element
+word_plain sub static tok h h' = rw (tok.lexeme_is, tok.after_is, h, h')

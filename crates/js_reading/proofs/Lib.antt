@@ -31,3 +31,4 @@ pub mod Functions
 pub mod Properties
 pub mod Classes
 pub mod Elements
+pub mod Bindings
