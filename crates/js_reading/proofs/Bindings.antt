@@ -1,10 +1,9 @@
 -- Names that are bound, as patterns that stand in a text, are read.
-use Rattle.std.proofs.Common.{◌≡◌, ◌≤◌, ℕ, suc, Bool, false, length, Some, refl, arith, codes}
-use Rattle.js_term.specs.Term.{Text, depth}
+use Rattle.std.proofs.Common.{◌≡◌, ℕ, false, Some, arith, codes}
+use Rattle.js_term.specs.Term.{Text}
 use Rattle.js_term.specs.Lexeme.{is_reserved}
 use Rattle.js_term.specs.Node.{binding_of}
 use Rattle.js_syntax.specs.Tokens.{word}
-use Rattle.js_reading.specs.Reading.{sees}
 use Rattle.js_reading.specs.Statements.{pattern}
 use Rattle.js_reading.specs.Read.{read}
 use Rattle.js_reading.proofs.TokensThere.{Seen, sees_by, binding_read}

@@ -1,13 +1,13 @@
 -- Methods of classes that stand in a text behind a mark are read.
-use Rattle.std.proofs.Common.{◌≡◌, ◌≤◌, ◌<◌, ℕ, zero, suc, Bool, true, false, not, ◌&&◌, ◌||◌, if◌then◌else◌, List, [], ◌∷◌, length, Option, Some, None, refl, sym, ◌∙◌, ap, arith, codes}
+use Rattle.std.proofs.Common.{◌≡◌, ◌≤◌, ◌<◌, ℕ, suc, Bool, true, false, ◌&&◌, [], length, Some, ◌∙◌, arith, codes}
 use Rattle.std.specs.Str.{IsUtf8}
 use Rattle.js_term.specs.Term.{Text, is_text, Term, depth}
 use Rattle.js_syntax.specs.Nodes.{method_node, field_node}
-use Rattle.js_syntax.specs.Tokens.{Lexeme, word, sign}
+use Rattle.js_syntax.specs.Tokens.{word, sign}
 use Rattle.js_syntax.specs.Edges.{is_constructor, edge, field_edge}
-use Rattle.js_tokens.specs.Next.{lexeme, after}
+use Rattle.js_tokens.specs.Next.{after}
 use Rattle.js_reading.specs.declared.goal.Goal.{Goal}
-use Rattle.js_reading.specs.Reading.{Found, Reading, ◌>>=◌, sees, sees_word, begins_key_at, semicolon}
+use Rattle.js_reading.specs.Reading.{Found, Reading, sees, sees_word, begins_key_at, semicolon}
 use Rattle.js_reading.specs.Literals.{modifies_method, modifies_element, is_accessor, takes_comma, method_kind, element_function, field, plain_element, word_element, marked_element, static_element, class_element}
 use Rattle.js_reading.specs.Read.{read}
 use Rattle.js_reading.proofs.TokensThere.{Seen, sees_by, sees_word_by}

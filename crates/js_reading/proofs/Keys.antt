@@ -1,20 +1,18 @@
 -- Keys and templates that stand in a text are read.
-use Rattle.std.proofs.Common.{◌≡◌, ◌≤◌, ◌<◌, ℕ, zero, suc, Bool, true, false, not, ◌&&◌, ◌||◌, if◌then◌else◌, List, [], ◌∷◌, ◌++◌, length, Option, Some, None, refl, sym, subst, ◌∙◌, ap, append_assoc, append-nil, arith, codes}
+use Rattle.std.proofs.Common.{◌≡◌, ◌≤◌, ◌<◌, ℕ, zero, suc, Bool, true, false, not, ◌||◌, List, [], ◌∷◌, ◌++◌, length, Some, refl, ◌∙◌, ap, append_assoc, append-nil, arith, codes}
 use Rattle.std.specs.Str.{IsUtf8}
-use Rattle.js_term.specs.Term.{Text, Term, list, node, all, depth, depths}
+use Rattle.js_term.specs.Term.{Text, Term, all, depth, depths}
 use Rattle.js_term.specs.declared.kind.Kind.{Kind}
 use Rattle.js_term.specs.Node.{name_of, string_of, number_of}
 use Rattle.js_syntax.specs.Lexical.{has_sound_escapes}
 use Rattle.js_syntax.specs.Nodes.{of_text, private_of}
 use Rattle.js_syntax.specs.Tokens.{Lexeme, word, private_name, number, big_integer, string, no_substitution, template_head, template_middle, template_tail, sign}
 use Rattle.js_syntax.specs.Edges.{edge}
-use Rattle.js_tokens.specs.Next.{lexeme, after, next_tail}
-use Rattle.js_reading.specs.declared.goal.Goal.{Goal}
-use Rattle.js_reading.specs.declared.goal.Goal.TheVariants as goal
-use Rattle.js_reading.specs.Reading.{Found, Reading, ◌>>=◌, sees, begins_key_by, begins_key_at}
-use Rattle.js_reading.specs.Parts.{part, expression, computed_key, key, member_key, quasi, Quasis, template_rest, template_by}
+use Rattle.js_tokens.specs.Next.{lexeme, after}
+use Rattle.js_reading.specs.Reading.{sees, begins_key_by, begins_key_at}
+use Rattle.js_reading.specs.Parts.{expression, computed_key, key, member_key, quasi, Quasis, template_rest, template_by}
 use Rattle.js_reading.specs.Read.{read}
-use Rattle.js_reading.proofs.TokensThere.{Seen, SeenTail, expect_read, sees_by}
+use Rattle.js_reading.proofs.TokensThere.{Seen, SeenTail, expect_read}
 use Rattle.js_reading.proofs.Lists.{is_end}
 use Rattle.js_reading.proofs.Follows.{end_holds}
 use Rattle.js_reading.proofs.Climbs.{right_read}
@@ -116,9 +114,13 @@ more_there : (sound : Bool) {raw a b c d : Text} {e : Term} {qs es : List Term} 
 unfolding template_rest
 more_there sound h tok x rest limit zero found fits enough = absurd (let s = tok.shorter in omega arith)
 more_there sound {raw = raw} {e = e} {qs = qs} {es = es} h tok x rest limit (suc n) found fits enough = let s1 = tok.shorter in let s2 = x.shorter in rw (
-  tok.tail_is, h, substituted x rest.closes limit (omega arith),
+  tok.tail_is,
+  h,
+  substituted x rest.closes limit (omega arith),
   rest.reads limit n (found.0 ++ quasi raw ∷ [], found.1 ++ e ∷ []) (omega arith) (omega arith),
-  append_assoc found.0 (quasi raw ∷ []) qs, append_assoc found.1 (e ∷ []) es)
+  append_assoc found.0 (quasi raw ∷ []) qs,
+  append_assoc found.1 (e ∷ []) es,
+)
 
 pub template_more_read : (sound : Bool) {raw a b c d : Text} {e : Term} {qs es : List Term} → not sound || has_sound_escapes raw ≡ true → SeenTail (template_middle raw) a b → IsReadExpression true e b c → IsReadTemplateRest sound qs es c d → IsReadTemplateRest sound (quasi raw ∷ qs) (e ∷ es) a d
 template_more_read sound h tok x rest = let s1 = tok.shorter in let s2 = x.shorter in let s3 = rest.shorter in record { utf8 = rest.utf8; shorter = omega arith; closes = tok.lexeme_is; reads = λ limit n found fits enough. more_there sound h tok x rest limit n found fits enough }
