@@ -1,17 +1,12 @@
 -- Classes that stand in a text are read.
-use Rattle.std.proofs.Common.{◌≡◌, ◌≤◌, ◌<◌, ℕ, zero, suc, Bool, true, false, not, ◌&&◌, ◌||◌, if◌then◌else◌, List, [], ◌∷◌, ◌++◌, length, Option, Some, None, refl, sym, subst, ◌∙◌, ap, append_assoc, append-nil, arith, codes}
+use Rattle.std.proofs.Common.{◌≡◌, ◌≤◌, ◌<◌, ℕ, zero, suc, true, false, List, [], ◌∷◌, ◌++◌, length, Some, refl, append_assoc, append-nil, arith, codes}
 use Rattle.std.specs.Str.{IsUtf8}
-use Rattle.js_term.specs.Term.{Text, Term, absent, list, node, all, depth, depths}
+use Rattle.js_term.specs.Term.{Text, Term, absent, all, depth, depths}
 use Rattle.js_term.specs.declared.kind.Kind.{Kind}
 use Rattle.js_syntax.specs.Nodes.{of_list, class_node}
-use Rattle.js_syntax.specs.Tokens.{Lexeme, word, sign}
+use Rattle.js_syntax.specs.Tokens.{word, sign}
 use Rattle.js_syntax.specs.Edges.{edge}
-use Rattle.js_tokens.specs.Next.{lexeme, after}
-use Rattle.js_reading.specs.declared.goal.Goal.{Goal}
-use Rattle.js_reading.specs.declared.goal.Goal.TheVariants as goal
-use Rattle.js_reading.specs.Reading.{Found, Reading, ◌>>=◌, sees, sees_word, expect, begins_key_at}
-use Rattle.js_reading.specs.Parts.{part}
-use Rattle.js_reading.specs.Functions.{naming}
+use Rattle.js_reading.specs.Reading.{sees, begins_key_at}
 use Rattle.js_reading.specs.Literals.{heritage, modifies_element, class_element, static_block, static_element, elements, class}
 use Rattle.js_reading.specs.Read.{read}
 use Rattle.js_reading.proofs.TokensThere.{Seen, expect_read, sees_by, sees_word_by}

@@ -1,20 +1,18 @@
 -- Functions that stand in a text are read.
-use Rattle.std.proofs.Common.{◌≡◌, ◌≤◌, ◌<◌, ℕ, zero, suc, Bool, true, false, not, ◌&&◌, ◌||◌, if◌then◌else◌, List, [], ◌∷◌, ◌++◌, length, Option, Some, None, refl, sym, subst, ◌∙◌, ap, append_assoc, append-nil, arith, codes}
+use Rattle.std.proofs.Common.{◌≡◌, ◌≤◌, ◌<◌, ℕ, zero, suc, Bool, true, false, not, ◌&&◌, List, [], ◌∷◌, ◌++◌, length, Option, Some, None, refl, sym, ◌∙◌, ap, append_assoc, append-nil, arith, codes}
 use Rattle.std.specs.Str.{IsUtf8}
 use Rattle.std.proofs.lemmas.Bool.{false≢true}
-use Rattle.js_term.specs.Term.{Text, Term, absent, list, node, all, depth, depths}
+use Rattle.js_term.specs.Term.{Text, Term, absent, all, depth, depths}
 use Rattle.js_term.specs.declared.kind.Kind.{Kind}
 use Rattle.js_term.specs.Lexeme.{is_reserved}
 use Rattle.js_term.specs.Node.{binding_of}
 use Rattle.js_syntax.specs.Nodes.{of_text, of_part, rested, parameter_of, function_node, body_node}
-use Rattle.js_syntax.specs.Tokens.{Lexeme, word, string, sign}
+use Rattle.js_syntax.specs.Tokens.{word, string, sign}
 use Rattle.js_syntax.specs.Edges.{edge, full}
 use Rattle.js_tokens.specs.Next.{lexeme, after}
 use Rattle.js_reading.specs.declared.goal.Goal.{Goal}
-use Rattle.js_reading.specs.declared.goal.Goal.TheVariants as goal
-use Rattle.js_reading.specs.Reading.{Found, Reading, ◌>>=◌, either, sees, expect, semicolon, name, binding}
-use Rattle.js_reading.specs.Parts.{part}
-use Rattle.js_reading.specs.Functions.{star, naming, Parameters, no_rest, rest_last, directive_by, directives, bound, initializer, parameter, parameter_items, parameter_list, parameters, statements, enclosed, body, function, method_function}
+use Rattle.js_reading.specs.Reading.{Found, Reading, sees, semicolon, name, binding}
+use Rattle.js_reading.specs.Functions.{star, naming, Parameters, no_rest, rest_last, directive_by, directives, bound, initializer, parameter, parameter_items, parameter_list, parameters, enclosed, body, function, method_function}
 use Rattle.js_reading.specs.Statements.{pattern}
 use Rattle.js_reading.specs.Read.{read}
 use Rattle.js_reading.proofs.TokensThere.{Seen, expect_read, sees_by}
@@ -263,8 +261,12 @@ directive_there : {raw v a b c d : Text} {ds : List Term} → Seen (string raw v
 unfolding directives
 directive_there tok end short rest zero found enough h = absurd (omega arith)
 directive_there {raw} {ds = ds} tok end short rest (suc n) found enough h = rw (
-  tok.lexeme_is, tok.after_is, end, rest.reads n (found ++ of_text Kind.Directive raw ∷ []) (let s1 = tok.shorter in omega arith) h,
-  append_assoc found (of_text Kind.Directive raw ∷ []) ds)
+  tok.lexeme_is,
+  tok.after_is,
+  end,
+  rest.reads n (found ++ of_text Kind.Directive raw ∷ []) (let s1 = tok.shorter in omega arith) h,
+  append_assoc found (of_text Kind.Directive raw ∷ []) ds,
+)
 
 pub directive_read : {raw v a b c d : Text} {ds : List Term} → Seen (string raw v) a b → semicolon full b ≡ Some (tt, c) → length c ≤ length b → IsReadDirectives ds c d → IsReadDirectives (of_text Kind.Directive raw ∷ ds) a d
 directive_read tok end short rest = record {

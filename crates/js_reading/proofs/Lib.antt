@@ -43,3 +43,5 @@ pub mod Joining
 pub mod Functions
 pub mod Properties
 pub mod Classes
+pub mod Elements
+pub mod Bindings
