@@ -36,3 +36,5 @@ pub mod Templating
 pub mod Fields
 pub mod Completing
 pub mod Endings
+pub mod Specified
+pub mod Clauses
