@@ -116,10 +116,11 @@ pub record FromRead (source a b : Text) : Type 0 where
   pub utf8 : IsUtf8 b
   pub no_comma : sees (codes ",") a ≡ false
   pub word_there : sees_word (codes "from") a ≡ true
+  pub no_as : sees_word (codes "as") a ≡ false
   pub reads : from_source a ≡ Some (source, b)
 
 pub from_text_read : {source a b : Text} → From source a b → IsUtf8 a → FromRead source a b
 from_text_read (module'.from tok text) u =
     let x = see_word tok u in
     let y = see text x.utf8 refl in
-    record { utf8 = y.utf8; no_comma = sees_by (codes ",") x; word_there = sees_word_by (codes "from") x; reads = from_read x y }
+    record { utf8 = y.utf8; no_comma = sees_by (codes ",") x; word_there = sees_word_by (codes "from") x; no_as = sees_word_by (codes "as") x; reads = from_read x y }

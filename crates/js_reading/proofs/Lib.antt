@@ -38,3 +38,6 @@ pub mod Completing
 pub mod Endings
 pub mod Specified
 pub mod Clauses
+pub mod ImportsRead
+pub mod ExportsRead
+pub mod Jumping
