@@ -84,3 +84,27 @@ indirect_list_read (module'.and_specifier s tok rest) u =
     let c = see_sign tok x.utf8 in
     let r = indirect_list_read rest c.utf8 in
     record { utf8 = r.utf8; shown = x.pair ∷ r.shown; means = rw (x.means, r.means); items = and_read x.item c r.items }
+
+-- ---- behind the list of an export of this module
+
+word_goes_on : (a : Text) → lexeme a ≡ Some (word (codes "from")) → left_out exports a ≡ true → ⊥
+unfolding left_out sees
+word_goes_on a is h = go (at_end a) (same_line a) refl (sym (ap (λ o. is_sign (codes "}") o || at_end a || (not (same_line a) && not (goes_on_at exports o))) is) ∙ h)
+  where
+    none_some : ◌≡◌ {A = Option Lexeme} None (Some (word (codes "from"))) → ⊥
+    none_some e = cc
+
+    go : (end line : Bool) → at_end a ≡ end → (end || (not line && false)) ≡ true → ⊥
+    go true line e h = none_some (sym (end_none a e) ∙ is)
+    go false true e h = false≢true h
+    go false false e h = false≢true h
+
+-- no `from` stands behind it
+pub no_from_behind : {a b : Text} → Ended exports a b → sees_word (codes "from") a ≡ false
+unfolding sees_word
+no_from_behind (by_sign x) = sees_word_by (codes "from") x
+no_from_behind {a} (by_stop same s) = go (sees_word (codes "from") a) refl
+  where
+    go : (t : Bool) → sees_word (codes "from") a ≡ t → sees_word (codes "from") a ≡ false
+    go false e = e
+    go true e = let left = s.left in absurd (word_goes_on a (word_is (codes "from") (lexeme a) e) left)
