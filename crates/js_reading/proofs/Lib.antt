@@ -41,3 +41,4 @@ pub mod Clauses
 pub mod ImportsRead
 pub mod ExportsRead
 pub mod Jumping
+pub mod ItemsRead
