@@ -5,17 +5,16 @@ use Rattle.std.proofs.lemmas.Bool.{false≢true}
 use Rattle.js_term.specs.Term.{Text, Term}
 use Rattle.js_syntax.specs.Edges.{exports}
 use Rattle.js_syntax.specs.Tokens.{Lexeme, word}
-use Rattle.js_syntax.specs.Spelling.{Semicolon}
 use Rattle.js_syntax.specs.Modules as module'
 use Rattle.js_syntax.specs.Modules.{Specifier, Specifiers}
 use Rattle.js_tokens.specs.Next.{lexeme}
 use Rattle.js_reading.specs.Reading.{is_sign, sees, sees_word, at_end, same_line, goes_on_at, left_out}
-use Rattle.js_reading.specs.Modules.{Exported, called, quoted, exported_tree, Pair, exported_pair, local_name, local_by, local_specifiers, indirect_specifier, indirect_specifiers}
+use Rattle.js_reading.specs.Modules.{called, quoted, Pair, exported_pair, local_name, local_by, local_specifiers, indirect_specifier, indirect_specifiers}
 use Rattle.js_reading.proofs.Each.{word_is}
-use Rattle.js_reading.proofs.TokensThere.{Seen, see, see_sign, see_word, sees_word_by}
-use Rattle.js_reading.proofs.TokensEnd.{Ended, by_sign, by_stop, Stops, ended, end_none, lexeme_sees}
+use Rattle.js_reading.proofs.TokensThere.{see, see_sign, see_word, sees_word_by}
+use Rattle.js_reading.proofs.TokensEnd.{Ended, by_sign, by_stop, end_none}
 use Rattle.js_reading.proofs.Lists.{ReadsItem, last_all}
-use Rattle.js_reading.proofs.Specified.{NameAt, NameRead, name_at_utf8, called_at, quoted_at, export_name_read, ListRead, none_read, plain_read, and_read, renamed_pair, same_pair}
+use Rattle.js_reading.proofs.Specified.{name_at_utf8, called_at, quoted_at, export_name_read, ListRead, none_read, plain_read, and_read, renamed_pair, same_pair}
 
 -- ---- specifiers of an export of this module
 

@@ -1,12 +1,10 @@
 -- Imports and exports that are spelled in a text are read.
-use Rattle.std.proofs.Common.{◌≡◌, ◌<◌, Bool, true, false, not, ◌&&◌, ◌||◌, List, [], ◌∷◌, length, Option, Some, None, refl, sym, ◌∙◌, ap, arith, codes}
+use Rattle.std.proofs.Common.{◌≡◌, false, List, Some, ◌∙◌, codes}
 use Rattle.std.specs.Str.{IsUtf8}
-use Rattle.std.proofs.lemmas.Bool.{false≢true}
 use Rattle.js_term.specs.Term.{Text, Term, absent, list, all}
 use Rattle.js_term.specs.declared.kind.Kind.{Kind}
-use Rattle.js_term.specs.Lexeme.{is_reserved}
 use Rattle.js_term.specs.Node.{string_of}
-use Rattle.js_syntax.specs.Nodes.{of_list, of_parts, export_specifier_of}
+use Rattle.js_syntax.specs.Nodes.{of_list, of_parts}
 use Rattle.js_syntax.specs.Tokens.{word, string, sign}
 use Rattle.js_syntax.specs.Edges.{plain, exports}
 use Rattle.js_syntax.specs.Spelling.{Semicolon}
@@ -16,10 +14,9 @@ use Rattle.js_tokens.specs.Next.{lexeme}
 use Rattle.js_reading.specs.declared.goal.Goal.{Goal}
 use Rattle.js_reading.specs.Reading.{Found, Reading, sees_word}
 use Rattle.js_reading.specs.Modules.{Exported, exported_tree, Pair, exported_pair, local_specifiers, indirect_specifiers, import_of, bare_import, import_from, import_by, all_of, all_name, export_all, export_pairs, export_item, module_item}
-use Rattle.js_reading.proofs.TokensThere.{Seen, see, see_sign, see_word, sees_by, sees_word_by, string_token_read}
+use Rattle.js_reading.proofs.TokensThere.{Seen, see_sign, see_word, sees_by, sees_word_by, string_token_read}
 use Rattle.js_reading.proofs.TokensEnd.{semicolon_read}
-use Rattle.js_reading.proofs.Lists.{ReadsItem, last_all}
-use Rattle.js_reading.proofs.Specified.{NameAt, NameRead, name_at_read, name_at_utf8, called_at, quoted_at, export_name_read, ListRead, none_read, plain_read, and_read, renamed_pair, same_pair, pairs_read}
+use Rattle.js_reading.proofs.Specified.{NameAt, name_at_read, ListRead, pairs_read}
 use Rattle.js_reading.proofs.Clauses.{ClauseRead, FromRead}
 
 module _ (sub : Goal → Text → Reading Found) where

@@ -1,6 +1,5 @@
 -- The items of a module, up to its end, are read.
-use Rattle.std.proofs.Common.{◌≡◌, ◌≤◌, ◌<◌, ℕ, zero, suc, Bool, true, false, if◌then◌else◌, List, [], ◌∷◌, ◌++◌, length, Option, Some, None, refl, sym, ◌∙◌, ap, append_assoc, append-nil, arith, codes}
-use Rattle.std.specs.Str.{IsUtf8}
+use Rattle.std.proofs.Common.{◌≡◌, ◌≤◌, ◌<◌, ℕ, zero, suc, true, false, List, [], ◌∷◌, ◌++◌, length, Some, sym, ◌∙◌, ap, append_assoc, append-nil, arith}
 use Rattle.js_term.specs.Term.{Text, Term}
 use Rattle.js_reading.specs.declared.goal.Goal.{Goal}
 use Rattle.js_reading.specs.Reading.{Found, Reading, at_end}

@@ -1,5 +1,5 @@
 -- Statements that end with a semicolon, of which no part stands open, are read.
-use Rattle.std.proofs.Common.{◌≡◌, ◌≤◌, ℕ, Bool, true, false, not, ◌||◌, Option, Some, None, refl, sym, ◌∙◌, ap, codes}
+use Rattle.std.proofs.Common.{◌≡◌, ◌≤◌, ℕ, true, false, Some, refl, codes}
 use Rattle.std.specs.Str.{IsUtf8}
 use Rattle.js_term.specs.Term.{Text, Term, absent, depth}
 use Rattle.js_term.specs.Lexeme.{is_reserved}
@@ -11,7 +11,7 @@ use Rattle.js_syntax.specs.Edges.{plain, edge}
 use Rattle.js_syntax.specs.Spelling.{Semicolon, Label}
 use Rattle.js_syntax.specs.Spelling as spell
 use Rattle.js_reading.specs.declared.goal.Goal.{Goal}
-use Rattle.js_reading.specs.Reading.{Found, Reading, sees, same_line, left_out}
+use Rattle.js_reading.specs.Reading.{Found, Reading, same_line, left_out}
 use Rattle.js_reading.specs.Statements.{ends_here, ended, return_statement, throw_statement, label, jump, word_statement, statement}
 use Rattle.js_reading.specs.Read.{read}
 use Rattle.js_reading.proofs.TokensThere.{Seen, see_word, sees_by, on_line, binding_read}
