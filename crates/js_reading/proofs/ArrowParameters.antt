@@ -1,19 +1,18 @@
 -- What stands in parentheses in front of an arrow are parameters.
-use Rattle.std.proofs.Common.{◌≡◌, ℕ, Bool, true, false, not, ◌&&◌, ◌||◌, if◌then◌else◌, List, [], ◌∷◌, Option, Some, None, refl, sym, subst, ◌∙◌, ap, codes}
-use Rattle.js_term.specs.Term.{Text, Term, absent, list, node, all}
+use Rattle.std.proofs.Common.{◌≡◌, Bool, true, false, if◌then◌else◌, List, [], Option, Some, None, refl, sym, subst, codes}
+use Rattle.js_term.specs.Term.{Text, Term, absent, all}
 use Rattle.js_term.specs.declared.kind.Kind.{Kind}
-use Rattle.js_syntax.specs.Nodes.{of_part, rested}
 use Rattle.js_syntax.specs.Tokens.{Sign}
 use Rattle.js_syntax.specs.Edges.{last_absent}
 use Rattle.js_syntax.specs.Spelling.{Item, Listed, Group, Rested, Rest, Pattern, Defaulted, Parameters}
 use Rattle.js_syntax.specs.Spelling as spell
 use Rattle.js_reading.specs.Reading.{Found, trees}
-use Rattle.js_reading.specs.Targets.{Items, with_rest, with_first, pattern_as, pattern_of, pattern_rest, target_elements, parameter_as, parameters_as, parameter_rest, arrow_parameters}
+use Rattle.js_reading.specs.Targets.{Items, with_rest, pattern_of, pattern_rest, target_elements, parameter_as, parameters_as, parameter_rest, arrow_parameters}
 use Rattle.js_reading.specs.Literals.{is_barred}
 use Rattle.js_reading.specs.Expressions.{parameters_in}
 use Rattle.js_reading.proofs.Chains.{Held}
 use Rattle.js_reading.proofs.Covers.{Raw, raw_targets, held_rested, pattern_as_is}
-use Rattle.js_reading.proofs.Patterns.{with_first_is, with_rest_is, some_is, pattern_there, defaulted_there, elements, rest_there}
+use Rattle.js_reading.proofs.Patterns.{with_first_is, with_rest_is, some_is, defaulted_there, elements, rest_there}
 
 defaulted_parameter : {p : Term} {a b : Text} → Defaulted p a b → (q : Term) → parameter_as (Some p) ≡ Some q → Item spell.parameter q a b
 defaulted_parameter {a = a} {b = b} (spell.not_defaulted (spell.binding free tok)) q h = subst (λ (z : Term). Item spell.parameter z a b) (some_is _ q h) (spell.a_parameter (spell.binding free tok))

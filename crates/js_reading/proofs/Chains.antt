@@ -1,12 +1,12 @@
 -- Lists that are read are listed.
-use Rattle.std.proofs.Common.{◌≡◌, ℕ, zero, suc, Bool, true, false, not, ◌&&◌, ◌||◌, if◌then◌else◌, List, [], ◌∷◌, ◌++◌, length, Option, Some, None, refl, sym, subst, ◌∙◌, ap, append_assoc, codes}
+use Rattle.std.proofs.Common.{◌≡◌, ℕ, zero, suc, Bool, true, false, if◌then◌else◌, List, [], ◌∷◌, ◌++◌, length, Some, refl, ◌∙◌, append_assoc, codes}
 use Rattle.std.specs.Str.{IsUtf8}
 use Rattle.js_term.specs.Term.{Text, Term}
-use Rattle.js_syntax.specs.Tokens.{sign, Sign}
+use Rattle.js_syntax.specs.Tokens.{Sign}
 use Rattle.js_syntax.specs.Spelling.{Sort, Item, Listed}
 use Rattle.js_syntax.specs.Spelling as spell
 use Rattle.js_tokens.specs.Next.{after}
-use Rattle.js_reading.specs.Reading.{Reading, ◌>>=◌, sees, separated, items, group}
+use Rattle.js_reading.specs.Reading.{Reading, sees, separated, items, group}
 use Rattle.js_reading.proofs.Each.{Each, each_none, each_some, each_bind, each_weaker, each_if, seen}
 
 -- ---- items of a sort, none of which is settled later

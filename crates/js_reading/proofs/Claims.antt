@@ -1,10 +1,9 @@
 -- What it is that a part is read: the claims on which the productions meet.
-use Rattle.std.proofs.Common.{◌≡◌, ◌≤◌, ◌<◌, ℕ, suc, Bool, true, false, List, [], ◌++◌, length, Some, codes}
+use Rattle.std.proofs.Common.{◌≡◌, ◌≤◌, ◌<◌, ℕ, suc, true, List, [], ◌++◌, length, Some, codes}
 use Rattle.std.specs.Str.{IsUtf8}
 use Rattle.js_term.specs.Term.{Text, Term, all, depth, depths}
 use Rattle.js_term.specs.declared.kind.Kind.{Kind}
 use Rattle.js_syntax.specs.Tokens.{word}
-use Rattle.js_tokens.specs.Next.{lexeme}
 use Rattle.js_reading.specs.Reading.{sees, same_line}
 use Rattle.js_reading.specs.Functions.{function, statements}
 use Rattle.js_reading.specs.Literals.{class}

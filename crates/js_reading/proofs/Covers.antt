@@ -1,5 +1,5 @@
 -- What was found as a literal stands as an expression or as a target.
-use Rattle.std.proofs.Common.{◌≡◌, ◌≤◌, ℕ, zero, suc, Bool, true, false, not, ◌&&◌, ◌||◌, if◌then◌else◌, List, [], ◌∷◌, map, Option, Some, None, refl, sym, subst, ◌∙◌, ap, arith, codes}
+use Rattle.std.proofs.Common.{◌≡◌, ◌≤◌, ℕ, Bool, true, false, if◌then◌else◌, List, [], ◌∷◌, Option, Some, None, refl, sym, subst, ◌∙◌, ap, arith, codes}
 use Rattle.js_term.specs.Term.{Text, Term, absent, list, node, Terms, none, more, two, all, flag}
 use Rattle.js_term.specs.Lexeme.{is_reserved}
 use Rattle.js_term.specs.declared.kind.Kind.{Kind}
@@ -10,8 +10,7 @@ use Rattle.js_syntax.specs.Tokens.{Word, Sign}
 use Rattle.js_syntax.specs.Edges.{is_simple_target, last_absent}
 use Rattle.js_syntax.specs.Spelling.{Sort, Stands, Expression, Item, Listed, Group, Rested, Rest, Spread, Key, Target, DefaultedTarget}
 use Rattle.js_syntax.specs.Spelling as spell
-use Rattle.js_syntax.proofs.Fronts.{same_text}
-use Rattle.js_reading.specs.Reading.{Found, closed, sees, tree_in, trees, any_cover, any_barred}
+use Rattle.js_reading.specs.Reading.{Found, closed, sees, trees, any_cover, any_barred}
 use Rattle.js_reading.specs.Targets.{Items, with_item, rest_as, part_as, pattern_as, object_rest, target_of, target_elements, target_property, target_properties}
 use Rattle.js_reading.specs.Parts.{spread_of}
 use Rattle.js_reading.specs.Literals.{ends_with_spread, is_barred, literal, pair_found, shorthand_found, default_found}

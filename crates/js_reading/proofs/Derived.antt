@@ -1,5 +1,5 @@
 -- The worked texts, computed.
-use Rattle.std.proofs.Common.{refl, ◌≡◌, true, Bool}
+use Rattle.std.proofs.Common.{refl, ◌≡◌, true}
 use Rattle.std.specs.List.{list_all}
 use Rattle.std.specs.Str.{chars}
 use Rattle.ucd_derived.specs.Binary.{is_xid_continue}

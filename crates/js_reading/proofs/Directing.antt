@@ -1,5 +1,5 @@
 -- Where no directive stands, no statement is a string token alone (11.2.1).
-use Rattle.std.proofs.Common.{◌≡◌, ℕ, Bool, true, false, not, ◌||◌, List, [], ◌∷◌, Option, Some, None, refl, sym, subst, ◌∙◌, ap}
+use Rattle.std.proofs.Common.{◌≡◌, ℕ, Bool, false, List, Some, None, refl, sym, subst, ◌∙◌}
 use Rattle.std.specs.Str.{IsUtf8}
 use Rattle.js_term.specs.Term.{Text, Term}
 use Rattle.js_term.specs.Node.{string_of}
@@ -8,7 +8,6 @@ use Rattle.js_syntax.specs.Edges.{has_kind, is_string_kind, is_string_statement,
 use Rattle.js_syntax.specs.Spelling.{Stands, Expression, Semicolon, Statement, Statements}
 use Rattle.js_syntax.specs.Spelling as spell
 use Rattle.js_tokens.specs.Next.{lexeme, after}
-use Rattle.js_reading.specs.Reading.{Reading, semicolon}
 use Rattle.js_reading.specs.Functions.{directive_by}
 use Rattle.js_reading.proofs.TokensThere.{see}
 use Rattle.js_reading.proofs.TokensEnd.{semicolon_read}

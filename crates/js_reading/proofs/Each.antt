@@ -1,21 +1,20 @@
 -- What each answer of a reading meets.
-use Rattle.std.proofs.Common.{◌≡◌, ℕ, zero, suc, Bool, true, false, not, ◌&&◌, ◌||◌, if◌then◌else◌, List, [], ◌∷◌, ◌++◌, length, Option, Some, None, refl, sym, subst, ◌∙◌, ap, append_assoc, codes}
+use Rattle.std.proofs.Common.{◌≡◌, Bool, true, false, not, ◌||◌, if◌then◌else◌, [], ◌∷◌, Option, Some, None, refl, subst, ap, codes}
 use Rattle.std.specs.Str.{IsUtf8}
 use Rattle.std.proofs.lemmas.Bool.{and_parts}
-use Rattle.js_term.specs.Term.{Text, is_text, Term, absent}
-use Rattle.js_term.specs.Lexeme.{is_reserved, is_one_of}
-use Rattle.js_syntax.specs.Tokens.{Lexeme, word, private_name, number, big_integer, string, no_substitution, template_head, sign, regexp, template_middle, template_tail, Front, Lexed, Token, Word, Sign, SameLine, AtEnd}
+use Rattle.js_term.specs.Term.{Text}
+use Rattle.js_term.specs.Lexeme.{is_reserved}
+use Rattle.js_syntax.specs.Tokens.{Lexeme, word, private_name, number, big_integer, string, no_substitution, template_head, sign, regexp, template_middle, template_tail, Front, Token, Word, Sign, SameLine, AtEnd}
 use Rattle.js_syntax.specs.Edges.{Edge, is_sign_among}
 use Rattle.js_syntax.specs.Spelling as spell
 use Rattle.js_syntax.specs.Spelling.{Semicolon, DoEnd}
 use Rattle.js_syntax.proofs.Fronts.{same_text}
-use Rattle.js_tokens.specs.Gaps.{Behind, gap, front, is_same_line, is_at_end}
-use Rattle.js_tokens.specs.Next.{Cut, lexeme, after, next, lexeme_in, rest_in, next_regexp, next_tail}
+use Rattle.js_tokens.specs.Gaps.{gap, is_same_line}
+use Rattle.js_tokens.specs.Next.{Cut, lexeme, after, next, lexeme_in, rest_in}
 use Rattle.js_tokens.proofs.TokenLaws.{token_found}
-use Rattle.js_tokens.proofs.GapLaws.{front_there, front_found, same_line_found, at_end_found}
-use Rattle.js_tokens.proofs.GoalLaws.{regexp_token_found, tail_token_found}
-use Rattle.js_reading.specs.Reading.{Found, Reading, ◌>>=◌, is_sign, is_word, sees, sees_word, same_line, at_end, expect, expect_word, name_by, name, unreserved, binding, string_by, string_token, goes_on_at, left_out, semicolon, do_end_by, do_end}
-use Rattle.js_reading.proofs.Utf8.{next_utf8, regexp_utf8, tail_utf8}
+use Rattle.js_tokens.proofs.GapLaws.{front_there, same_line_found, at_end_found}
+use Rattle.js_reading.specs.Reading.{Reading, ◌>>=◌, is_sign, is_word, sees, sees_word, same_line, at_end, expect, expect_word, name_by, name, binding, string_by, string_token, goes_on_at, left_out, semicolon, do_end_by, do_end}
+use Rattle.js_reading.proofs.Utf8.{next_utf8}
 
 -- what is read meets P, and UTF-8 is left
 pub record Each {A : Type 0} (P : A → Text → Type 0) (r : Reading A) : Type 0 where

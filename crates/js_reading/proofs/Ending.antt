@@ -1,22 +1,25 @@
 -- What stands behind an expression that ends a statement.
-use Rattle.std.proofs.Common.{◌≡◌, ◌≤◌, ℕ, Bool, true, false, not, ◌&&◌, ◌||◌, if◌then◌else◌, nat_le, List, [], ◌∷◌, Option, Some, None, refl, sym, subst, ◌∙◌, ap, arith, codes}
+use Rattle.std.proofs.Common.{◌≡◌, ◌≤◌, ℕ, Bool, true, false, not, ◌&&◌, ◌||◌, if◌then◌else◌, nat_le, [], ◌∷◌, Option, Some, None, refl, sym, subst, ◌∙◌, ap, arith, codes}
 use Rattle.std.specs.Str.{IsUtf8}
 use Rattle.std.proofs.lemmas.Bool.{false≢true, not-true, le-leb, leb-true, leb-false, and_parts}
-use Rattle.js_term.specs.Term.{Text, is_text, Term}
+use Rattle.js_term.specs.Term.{Text, is_text, Term, depth}
 use Rattle.js_term.specs.Lexeme.{is_one_of}
 use Rattle.js_syntax.proofs.Fronts.{among}
 use Rattle.js_syntax.specs.Tokens.{signs, Lexeme, word, private_name, number, big_integer, string, no_substitution, template_head, sign, regexp, template_middle, template_tail}
-use Rattle.js_syntax.specs.Edges.{Edge, full, updated, loose, exports, accessor, static, plain, edge, goes_on_with, is_access, is_operator, is_update}
+use Rattle.js_syntax.specs.Edges.{Edge, full, updated, loose, edge, goes_on_with, is_access, is_operator, is_update}
 use Rattle.js_syntax.specs.Spelling.{Semicolon}
-use Rattle.js_tokens.specs.Next.{lexeme, after}
-use Rattle.js_reading.specs.Reading.{is_sign, is_word, sees, sees_word, same_line, at_end, arrow_here, goes_on_at, left_out}
+use Rattle.js_tokens.specs.Next.{lexeme}
+use Rattle.js_reading.specs.Reading.{sees, sees_word, same_line, at_end, arrow_here, goes_on_at, left_out}
 use Rattle.js_reading.specs.Operators.{binds, sign_binds, word_binds}
-use Rattle.js_reading.specs.Expressions.{ends_operand, is_arrow_name}
+use Rattle.js_reading.specs.Expressions.{ends_operand}
 use Rattle.js_reading.proofs.Each.{there, is_end as at_its_end}
 use Rattle.js_reading.proofs.Operations.{is_sign_text}
-use Rattle.js_reading.proofs.TokensThere.{Seen, see_sign, sees_by}
-use Rattle.js_reading.proofs.TokensEnd.{Ended, by_sign, by_stop, Stops, end_lexeme, no_lexeme, lexeme_sees}
-use Rattle.js_reading.proofs.Lists.{is_end, ending_end, sees_sign}
+use Rattle.js_reading.proofs.TokensThere.{sees_by}
+use Rattle.js_reading.specs.Parts.{expression}
+use Rattle.js_reading.specs.Read.{read}
+use Rattle.js_reading.proofs.Listings.{IsReadExpression}
+use Rattle.js_reading.proofs.TokensEnd.{Ended, by_sign, by_stop, ended, end_lexeme, no_lexeme, lexeme_sees}
+use Rattle.js_reading.proofs.Lists.{is_end, sees_sign}
 use Rattle.js_reading.proofs.Follows.{holds, either_case, sign_row, tightness, tightness_by, takes_name, broken, Ends, is_full, is_updated, is_loose, end_holds, free_holds, is_access_at}
 
 -- nothing is taken on another line but by what goes on
@@ -207,3 +210,7 @@ stop_behind x b u ends h = either_case (sees (codes "}") b || at_end b) _ h
 pub behind_semicolon : {n : ℕ} {x : Edge} {b c : Text} → IsUtf8 b → Ends n x → Ended x b c → Behind x b
 behind_semicolon {x = x} {b = b} u ends (by_sign t) = end_behind x b ends (ap is_end t.lexeme_is) (sees_by (codes ",") t)
 behind_semicolon {x = x} {b = b} u ends (by_stop same st) = stop_behind x b u ends st.left
+
+-- An expression is read before the semicolon of its statement.
+pub before_semicolon : {e : Term} {a b c : Text} → IsReadExpression true e a b → Semicolon (edge e) b c → (limit : ℕ) → depth e ≤ limit → expression (read limit) true a ≡ Some (e, b)
+before_semicolon x end limit fits = let k = behind_semicolon x.utf8 x.ends (ended end x.utf8) in x.reads limit fits k.keeps k.no_comma

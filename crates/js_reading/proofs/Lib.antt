@@ -35,7 +35,6 @@ pub mod Shapes
 pub mod Dispatching
 pub mod Templating
 pub mod StatementStarts
-pub mod StatementsThere
 pub mod Fields
 pub mod Completing
 pub mod Ending
@@ -45,3 +44,10 @@ pub mod Properties
 pub mod Classes
 pub mod Elements
 pub mod Bindings
+pub mod Specified
+pub mod Clauses
+pub mod ImportsRead
+pub mod ExportsRead
+pub mod Jumping
+pub mod ItemsRead
+pub mod StatementsThere

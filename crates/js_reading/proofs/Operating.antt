@@ -1,5 +1,5 @@
 -- What the tables of operators say, and what a token that goes on asks for.
-use Rattle.std.proofs.Common.{◌≡◌, ◌≤◌, ℕ, zero, suc, Bool, true, false, not, ◌&&◌, ◌||◌, if◌then◌else◌, nat_eq, nat_le, List, [], ◌∷◌, Option, Some, None, refl, sym, subst, ◌∙◌, ap, arith, codes}
+use Rattle.std.proofs.Common.{◌≡◌, ◌≤◌, ℕ, Bool, true, false, not, ◌&&◌, ◌||◌, if◌then◌else◌, nat_eq, nat_le, List, [], ◌∷◌, Option, Some, refl, sym, subst, arith, codes}
 use Rattle.std.specs.List.{list_all}
 use Rattle.std.proofs.lemmas.Bool.{leb-true, and_parts, eqb-true}
 use Rattle.js_term.specs.Term.{Text, is_text, Term}
@@ -7,14 +7,12 @@ use Rattle.js_term.specs.declared.kind.Kind.{Kind}
 use Rattle.js_term.specs.Lexeme.{is_one_of}
 use Rattle.js_syntax.specs.Parts.{is_node}
 use Rattle.js_syntax.specs.Texts.{assignment_operators, logical_operators}
-use Rattle.js_syntax.specs.Tokens.{Lexeme, word, sign, signs, Lexed, is_punctuator, Token}
-use Rattle.js_syntax.specs.Edges.{operator_levels, level_among, binary_level, is_update, is_coalesce_left, member_level}
+use Rattle.js_syntax.specs.Tokens.{Lexeme, sign, signs, Lexed, is_punctuator, Token}
+use Rattle.js_syntax.specs.Edges.{operator_levels, level_among, binary_level, is_update}
 use Rattle.js_syntax.specs.Spelling.{Stands, BareNew}
 use Rattle.js_syntax.specs.Spelling as spell
 use Rattle.js_syntax.proofs.Fronts.{same_text, among}
-use Rattle.js_tokens.specs.Next.{lexeme}
-use Rattle.js_reading.specs.Reading.{Found, same_line}
-use Rattle.js_reading.specs.Operators.{binds, word_binds, gives, sign_gives, needs, sign_needs, suits, goes_on_by, goes_on}
+use Rattle.js_reading.specs.Operators.{binds, word_binds, gives, sign_gives, needs, sign_needs, suits, goes_on_by}
 use Rattle.js_reading.proofs.Each.{or_cases}
 
 -- ---- what a token that goes on asks for

@@ -1,16 +1,16 @@
 -- A target that has the shape of a pattern is one.
-use Rattle.std.proofs.Common.{◌≡◌, ℕ, Bool, true, false, not, ◌&&◌, ◌||◌, if◌then◌else◌, List, [], ◌∷◌, Option, Some, None, refl, sym, subst, ◌∙◌, ap, codes}
-use Rattle.js_term.specs.Term.{Text, Term, absent, list, node, Terms, none, more, one, two, all, flag}
+use Rattle.std.proofs.Common.{◌≡◌, ℕ, Bool, true, false, not, List, [], ◌∷◌, Option, Some, None, refl, sym, subst, ◌∙◌, ap, codes}
+use Rattle.js_term.specs.Term.{Text, Term, absent, list, node, Terms, none, more, all, flag}
 use Rattle.js_term.specs.declared.kind.Kind.{Kind}
 use Rattle.js_term.specs.Lexeme.{is_reserved}
 use Rattle.js_term.specs.Node.{identifier_of, binding_of}
-use Rattle.js_syntax.specs.Nodes.{of_part, of_parts, pair_of, rested}
+use Rattle.js_syntax.specs.Nodes.{of_part, of_parts}
 use Rattle.js_syntax.specs.Parts.{is_present}
-use Rattle.js_syntax.specs.Tokens.{Word, Sign}
+use Rattle.js_syntax.specs.Tokens.{Word}
 use Rattle.js_syntax.specs.Edges.{is_simple_target, last_absent}
 use Rattle.js_syntax.specs.Spelling.{Sort, Stands, Item, Listed, Group, Rested, Rest, Target, DefaultedTarget, Pattern, Defaulted}
 use Rattle.js_syntax.specs.Spelling as spell
-use Rattle.js_reading.specs.Targets.{Items, pattern_as, part_as, default_as, bound_name, with_rest, with_first, rest_of, bound_object_rest, pattern_of, pattern_rest, pattern_elements, pattern_property, pattern_properties}
+use Rattle.js_reading.specs.Targets.{default_as, bound_name, with_rest, with_first, rest_of, bound_object_rest, pattern_of, pattern_rest, pattern_elements, pattern_property, pattern_properties}
 use Rattle.js_reading.proofs.Covers.{pattern_as_is, part_as_is}
 
 -- ---- an identifier

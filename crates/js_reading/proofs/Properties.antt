@@ -1,27 +1,25 @@
 -- Properties of objects that stand in a text are read.
-use Rattle.std.proofs.Common.{◌≡◌, ◌≤◌, ◌<◌, ℕ, zero, suc, Bool, true, false, not, ◌&&◌, ◌||◌, if◌then◌else◌, List, [], ◌∷◌, ◌++◌, length, Option, Some, None, refl, sym, subst, ◌∙◌, ap, arith, codes}
-use Rattle.std.specs.Str.{IsUtf8}
+use Rattle.std.proofs.Common.{◌≡◌, ◌≤◌, ℕ, suc, Bool, true, false, ◌&&◌, ◌||◌, [], Option, Some, None, refl, sym, ◌∙◌, ap, arith, codes}
 use Rattle.std.proofs.lemmas.Bool.{false≢true}
-use Rattle.js_term.specs.Term.{Text, is_text, Term, absent, list, node, all, depth, depths}
+use Rattle.js_term.specs.Term.{Text, is_text, Term, depth}
 use Rattle.js_term.specs.declared.kind.Kind.{Kind}
 use Rattle.js_term.specs.Lexeme.{is_reserved}
 use Rattle.js_term.specs.Node.{name_of, identifier_of}
 use Rattle.js_syntax.specs.Nodes.{of_part, property}
 use Rattle.js_syntax.specs.Tokens.{Lexeme, word, private_name, number, big_integer, string, regexp, no_substitution, template_head, template_middle, template_tail, sign}
 use Rattle.js_syntax.proofs.Fronts.{same_text}
-use Rattle.js_tokens.specs.Next.{lexeme, after}
+use Rattle.js_tokens.specs.Next.{lexeme}
 use Rattle.js_reading.specs.declared.goal.Goal.{Goal}
-use Rattle.js_reading.specs.declared.goal.Goal.TheVariants as goal
-use Rattle.js_reading.specs.Reading.{Found, closed, Reading, ◌>>=◌, is_sign, sees, same_line, begins_key_by, begins_key_at}
-use Rattle.js_reading.specs.Parts.{Key, key, spread}
-use Rattle.js_reading.specs.Functions.{star, method_function}
+use Rattle.js_reading.specs.Reading.{Found, Reading, ◌>>=◌, sees, same_line, begins_key_by, begins_key_at}
+use Rattle.js_reading.specs.Parts.{key, spread}
+use Rattle.js_reading.specs.Functions.{star}
 use Rattle.js_reading.specs.Literals.{modifies_method, is_accessor, takes_comma, method_property, pair_found, shorthand_found, marked_method, accessor_property, valued, behind_key, shorthand, named_property, property_item}
 use Rattle.js_reading.specs.Read.{read}
 use Rattle.js_reading.proofs.TokensThere.{Seen, sees_by}
-use Rattle.js_reading.proofs.Lists.{is_closing, is_ending, is_end, sees_sign, ReadsItem, some_item}
+use Rattle.js_reading.proofs.Lists.{is_closing, is_ending, is_end, sees_sign, some_item}
 use Rattle.js_reading.proofs.Climbs.{whole, IsRead}
 use Rattle.js_reading.proofs.Listings.{StandsRead, FoundItem, found_expression}
-use Rattle.js_reading.proofs.Templating.{IsReadMemberKey, IsReadKey}
+use Rattle.js_reading.proofs.Templating.{IsReadKey}
 use Rattle.js_reading.proofs.Functions.{IsReadStar, IsReadMethod}
 
 abbrev pub property_of : ℕ → Text → Reading Found
@@ -119,8 +117,8 @@ property_read {n} {computed} {k} {e} {a} {b} opens x tok y = let r = y.read in r
   cover_is = refl;
   utf8 = y.utf8;
   reads = λ limit fits. some_item false (let s1 = x.shorter in let s2 = tok.shorter in let s3 = r.shorter in omega arith) (opens_closes opens)
-    (λ h. key_behind opens x limit (omega arith) (colon_key (codes ":") b tok.lexeme_is refl) (sees_by (codes "*") tok) (ap (λ v. v || sees (codes "(") b) (sees_by (codes ":") tok)) ∙ value_there computed k tok y limit (omega arith) h)
-    (λ h. absurd (false≢true h));
+      (λ h. key_behind opens x limit (omega arith) (colon_key (codes ":") b tok.lexeme_is refl) (sees_by (codes "*") tok) (ap (λ v. v || sees (codes "(") b) (sees_by (codes ":") tok)) ∙ value_there computed k tok y limit (omega arith) h)
+      (λ h. absurd (false≢true h));
 }
 
 -- ---- methods
@@ -144,8 +142,8 @@ method_property_read {computed} {k} {f} {a} {b} opens x y = record {
   cover_is = refl;
   utf8 = y.utf8;
   reads = λ limit fits. some_item false (let s1 = x.shorter in let s2 = y.shorter in omega arith) (opens_closes opens)
-    (λ h. key_behind opens x limit (omega arith) (colon_key (codes "(") b y.opens refl) (paren_no_star b y.opens) (paren_sees b y.opens) ∙ method_behind computed k y limit (omega arith))
-    (λ h. absurd (false≢true h));
+      (λ h. key_behind opens x limit (omega arith) (colon_key (codes "(") b y.opens refl) (paren_no_star b y.opens) (paren_sees b y.opens) ∙ method_behind computed k y limit (omega arith))
+      (λ h. absurd (false≢true h));
 }
 
 -- a method with marks
@@ -164,8 +162,8 @@ generator_property_read {computed} {k} {f} tok x y = record {
   cover_is = refl;
   utf8 = y.utf8;
   reads = λ limit fits. some_item false (let s0 = tok.shorter in let s1 = x.shorter in let s2 = y.shorter in omega arith) (ap is_closing tok.lexeme_is)
-    (λ h. generator_there (read limit) tok ∙ marked_there [] (codes "*") x y limit (omega arith) (omega arith))
-    (λ h. absurd (false≢true h));
+      (λ h. generator_there (read limit) tok ∙ marked_there [] (codes "*") x y limit (omega arith) (omega arith))
+      (λ h. absurd (false≢true h));
 }
 
 async_there : (sub : Goal → Text → Reading Found) {s a b c : Text} → Seen (word (codes "async")) a b → modifies_method b ≡ true → IsReadStar s b c → property_item sub a ≡ marked_method sub (codes "async") s c
@@ -188,8 +186,8 @@ async_property_read {s} {computed} {k} {f} tok h star x y = record {
   cover_is = refl;
   utf8 = y.utf8;
   reads = λ limit fits. some_item false (let s0 = tok.shorter in let s1 = x.shorter in let s2 = y.shorter in let s3 = star.short in omega arith) (ap is_closing tok.lexeme_is)
-    (λ h'. async_there (read limit) tok h star ∙ marked_there (codes "async") s x y limit (omega arith) (omega arith))
-    (λ h'. absurd (false≢true h'));
+      (λ h'. async_there (read limit) tok h star ∙ marked_there (codes "async") s x y limit (omega arith) (omega arith))
+      (λ h'. absurd (false≢true h'));
 }
 
 -- ---- accessors
@@ -213,8 +211,8 @@ accessor_property_read {kind} {computed} {k} {f} other is tok x y = record {
   cover_is = refl;
   utf8 = y.utf8;
   reads = λ limit fits. some_item false (let s0 = tok.shorter in let s1 = x.shorter in let s2 = y.shorter in omega arith) (ap is_closing tok.lexeme_is)
-    (λ h. accessor_there (read limit) other is tok x.begins ∙ accessor_reads kind x y limit (omega arith) (omega arith))
-    (λ h. absurd (false≢true h));
+      (λ h. accessor_there (read limit) other is tok x.begins ∙ accessor_reads kind x y limit (omega arith) (omega arith))
+      (λ h. absurd (false≢true h));
 }
 
 -- ---- spreads
@@ -230,8 +228,8 @@ spread_property_read {n} {e} tok x = let r = x.read in record {
   cover_is = refl;
   utf8 = x.utf8;
   reads = λ limit fits. some_item false (let s1 = tok.shorter in let s2 = r.shorter in omega arith) (ap is_closing tok.lexeme_is)
-    (λ h. spread_there limit tok r (omega arith) h)
-    (λ h. absurd (false≢true h));
+      (λ h. spread_there limit tok r (omega arith) h)
+      (λ h. absurd (false≢true h));
 }
 
 -- ---- shorthands
@@ -268,8 +266,15 @@ end_no_key b h = go (lexeme b) h
 shorthand_there : (sub : Goal → Text → Reading Found) {x a b : Text} → is_reserved x ≡ false → Seen (word x) a b → sees (codes ":") b ≡ false → is_end (lexeme b) ≡ true → property_item sub a ≡ Some (shorthand_found x, b)
 unfolding property_item named_property shorthand
 shorthand_there sub {x} {b = b} free tok colon h = rw (
-  tok.lexeme_is, tok.after_is, unmarked x b (end_no_key b h) (end_no_sign (codes "*") b refl h), no_accessor x b (end_no_key b h),
-  colon, end_no_sign (codes "(") b refl h, free, end_no_sign (codes "=") b refl h)
+  tok.lexeme_is,
+  tok.after_is,
+  unmarked x b (end_no_key b h) (end_no_sign (codes "*") b refl h),
+  no_accessor x b (end_no_key b h),
+  colon,
+  end_no_sign (codes "(") b refl h,
+  free,
+  end_no_sign (codes "=") b refl h,
+)
 
 -- before a comma or the brace
 pub shorthand_read : {x a b : Text} → is_reserved x ≡ false → Seen (word x) a b → sees (codes ":") b ≡ false → FoundItem property_of false (property (codes "init") false true false (name_of x) (identifier_of x)) a b

@@ -1,5 +1,5 @@
 -- The knot: what is read of a whole module is spelled.
-use Rattle.std.proofs.Common.{◌≡◌, ℕ, zero, suc, List, Some, None, ap, subst}
+use Rattle.std.proofs.Common.{◌≡◌, ℕ, zero, suc, List, Some}
 use Rattle.std.specs.Str.{IsUtf8}
 use Rattle.js_term.specs.Term.{Text, Term}
 use Rattle.js_syntax.specs.Nodes.{module_of}
@@ -7,17 +7,14 @@ use Rattle.js_syntax.specs.Modules.{Hashbang, Spells}
 use Rattle.js_syntax.specs.Modules as module'
 use Rattle.js_reading.specs.declared.goal.Goal.{Goal}
 use Rattle.js_reading.specs.declared.goal.Goal.TheVariants as goal
-use Rattle.js_reading.specs.Reading.{Found, closed, Reading, ◌>>=◌}
-use Rattle.js_reading.specs.Expressions.{at}
-use Rattle.js_reading.specs.Statements.{pattern, statement}
-use Rattle.js_reading.specs.Modules.{module_body}
+use Rattle.js_reading.specs.Reading.{Found, closed, Reading}
 use Rattle.js_reading.specs.Read.{step, read, read_body}
 use Rattle.js_reading.specs.Laws.{Sound}
 use Rattle.js_reading.proofs.Each.{Each, each_none, each_some, each_bind}
 use Rattle.js_reading.proofs.SoundParts.{Good, Fits}
 use Rattle.js_reading.proofs.SoundClimb.{level_each, callee_each}
 use Rattle.js_reading.proofs.SoundStatements.{pattern_each, statement_each}
-use Rattle.js_reading.proofs.SoundModules.{Body, body_each}
+use Rattle.js_reading.proofs.SoundModules.{body_each}
 
 step_each : (sub : Goal → Text → Reading Found) → Good sub → (g : Goal) (a : Text) → IsUtf8 a → Each (Fits g a) (step sub g a)
 step_each sub good (goal.Expression least i) a u = level_each sub good i least a u

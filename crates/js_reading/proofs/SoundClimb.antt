@@ -1,28 +1,26 @@
 -- What goes on with an expression is spelled.
-use Rattle.std.proofs.Common.{◌≡◌, ◌≤◌, ◌<◌, ℕ, zero, suc, Bool, true, false, not, ◌&&◌, ◌||◌, if◌then◌else◌, nat_le, List, [], ◌∷◌, length, Option, Some, None, refl, sym, subst, ◌∙◌, ap, arith, codes}
+use Rattle.std.proofs.Common.{◌≡◌, ◌≤◌, ℕ, zero, suc, Bool, true, false, not, ◌||◌, if◌then◌else◌, nat_le, List, length, Option, Some, None, refl, sym, subst, arith, codes}
 use Rattle.std.specs.Str.{IsUtf8}
 use Rattle.std.proofs.lemmas.Bool.{and_parts, leb-true, le-leb}
-use Rattle.js_term.specs.Term.{Text, is_text, Term, absent, node, all, two}
+use Rattle.js_term.specs.Term.{Text, is_text, Term, all, two}
 use Rattle.js_term.specs.declared.kind.Kind.{Kind}
 use Rattle.js_term.specs.Lexeme.{is_one_of}
-use Rattle.js_syntax.specs.Nodes.{marked, of_parts, update_of, call_link}
-use Rattle.js_syntax.specs.Parts.{is_node}
+use Rattle.js_syntax.specs.Nodes.{marked, of_parts, call_link}
 use Rattle.js_syntax.specs.Texts.{assignment_operators, logical_operators}
-use Rattle.js_syntax.specs.Tokens.{Lexeme, word, private_name, number, big_integer, string, no_substitution, template_head, sign, regexp, template_middle, template_tail, Token, Word, Sign, SameLine}
-use Rattle.js_syntax.specs.Edges.{is_simple_target, is_update, is_word_operator, binary_level, is_coalesce_left, member_level}
+use Rattle.js_syntax.specs.Tokens.{Lexeme, word, private_name, number, big_integer, string, no_substitution, template_head, sign, regexp, template_middle, template_tail, Word, Sign, SameLine}
+use Rattle.js_syntax.specs.Edges.{is_simple_target, is_update, binary_level, is_coalesce_left, member_level}
 use Rattle.js_syntax.specs.Spelling.{Stands, Operator, Target, DefaultedTarget, Access}
 use Rattle.js_syntax.specs.Spelling as spell
 use Rattle.js_syntax.proofs.Fronts.{same_text}
 use Rattle.js_tokens.specs.Next.{lexeme, after}
 use Rattle.js_reading.specs.declared.goal.Goal.{Goal}
-use Rattle.js_reading.specs.declared.goal.Goal.TheVariants as goal
 use Rattle.js_reading.specs.Reading.{Found, closed, Reading, ◌>>=◌, same_line}
-use Rattle.js_reading.specs.Operators.{binds, word_binds, gives, sign_gives, needs, sign_needs, suits, goes_on}
+use Rattle.js_reading.specs.Operators.{binds, word_binds, sign_gives, sign_needs, suits, goes_on}
 use Rattle.js_reading.specs.Targets.{target_of}
 use Rattle.js_reading.specs.Parts.{template_by}
-use Rattle.js_reading.specs.Expressions.{at, template_tree, is_bare_new, target_in, assigned_in, logical_right, logical_level, operated, conditional, assigned_by, binary_by, updated, operator_by, sign_extended, extended_by, is_assignment, operator_text, extended, climb, climbed, at_level, callee_by, callee, dotted, computed, called, prefix}
-use Rattle.js_reading.proofs.Each.{Each, each_none, each_some, each_bind, each_weaker, each_if, or_cases, or_both, not_true, there, on_same_line, expect_each}
-use Rattle.js_reading.proofs.Covers.{Covers, is_open, is_solid, closed_covers, is_true}
+use Rattle.js_reading.specs.Expressions.{at, template_tree, is_bare_new, target_in, assigned_in, logical_right, logical_level, operated, conditional, assigned_by, binary_by, updated, operator_by, sign_extended, extended_by, is_assignment, operator_text, extended, climb, at_level, callee}
+use Rattle.js_reading.proofs.Each.{Each, each_none, each_some, each_bind, each_weaker, each_if, there, on_same_line, expect_each}
+use Rattle.js_reading.proofs.Covers.{Covers, closed_covers}
 use Rattle.js_reading.proofs.SoundParts.{Good, Callees, part_each, template_each}
 use Rattle.js_reading.proofs.SoundLiterals.{as_sign}
 use Rattle.js_reading.proofs.SoundMembers.{dotted_each, computed_each, called_each, chain_each}

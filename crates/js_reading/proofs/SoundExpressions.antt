@@ -1,16 +1,14 @@
 -- Expressions that are read are spelled.
-use Rattle.std.proofs.Common.{◌≡◌, ◌≤◌, ◌<◌, ℕ, zero, suc, Bool, true, false, not, ◌&&◌, ◌||◌, if◌then◌else◌, nat_le, List, [], ◌∷◌, length, Option, Some, None, refl, sym, subst, ◌∙◌, ap, arith, codes}
+use Rattle.std.proofs.Common.{◌≡◌, ℕ, Bool, true, false, not, ◌&&◌, ◌||◌, if◌then◌else◌, nat_le, List, [], ◌∷◌, Option, Some, None, refl, sym, subst, arith, codes}
 use Rattle.std.specs.Str.{IsUtf8}
-use Rattle.std.proofs.lemmas.Bool.{and_parts, leb-true, le-leb}
-use Rattle.js_term.specs.Term.{Text, is_text, Term, absent, all, none, one, two}
+use Rattle.std.proofs.lemmas.Bool.{and_parts, leb-true}
+use Rattle.js_term.specs.Term.{Text, is_text, Term, absent, all, none}
 use Rattle.js_term.specs.declared.kind.Kind.{Kind}
-use Rattle.js_term.specs.Lexeme.{is_reserved, is_one_of}
+use Rattle.js_term.specs.Lexeme.{is_reserved}
 use Rattle.js_term.specs.Node.{truth, boolean_of}
-use Rattle.js_syntax.specs.Nodes.{alone, marked, new_of, super_of, call_link}
-use Rattle.js_syntax.specs.Parts.{is_node}
-use Rattle.js_syntax.specs.Texts.{assignment_operators, logical_operators}
+use Rattle.js_syntax.specs.Nodes.{alone, new_of, super_of, call_link}
 use Rattle.js_syntax.specs.Tokens.{Lexeme, word, private_name, number, big_integer, string, no_substitution, template_head, sign, regexp, template_middle, template_tail, Token, Word, Sign, SameLine}
-use Rattle.js_syntax.specs.Edges.{is_simple_target, is_private_member, is_unary, is_update, is_word_operator, binary_level, is_coalesce_left, member_level}
+use Rattle.js_syntax.specs.Edges.{is_simple_target, is_private_member, is_unary, is_update, is_word_operator}
 use Rattle.js_syntax.specs.Spelling.{Stands, Operator, FunctionText, ClassText, BareNew, ImportOptions, Target, Access}
 use Rattle.js_syntax.specs.Spelling as spell
 use Rattle.js_syntax.proofs.Fronts.{same_text, among}
@@ -18,18 +16,16 @@ use Rattle.js_tokens.specs.Next.{Cut, lexeme, after, next_regexp}
 use Rattle.js_tokens.proofs.GoalLaws.{regexp_token_found}
 use Rattle.js_reading.specs.declared.goal.Goal.{Goal}
 use Rattle.js_reading.specs.declared.goal.Goal.TheVariants as goal
-use Rattle.js_reading.specs.Reading.{Found, closed, Reading, ◌>>=◌, sees, sees_word, same_line, arrow_here}
+use Rattle.js_reading.specs.Reading.{Found, Reading, ◌>>=◌, sees, sees_word, same_line, arrow_here}
 use Rattle.js_reading.specs.Parts.{template_by}
-use Rattle.js_reading.specs.Functions.{function}
-use Rattle.js_reading.specs.Literals.{class}
-use Rattle.js_reading.specs.Expressions.{at, template_tree, regexp_by, is_slash, is_word_unary, ends_operand, is_arrow_name, is_bare_new, async_named_by, async_by, async_expression, unary, await_expression, yield_expression, constructed_by, new_expression, second_argument, import_options, import_call, import_expression, super_member, super_expression, dotted, computed, literal_word, word_by, word_prefix, named_parameters, update_before, private_in, sign_prefix, prefix_by, prefix}
+use Rattle.js_reading.specs.Expressions.{at, template_tree, regexp_by, is_slash, is_word_unary, ends_operand, is_arrow_name, async_named_by, async_by, async_expression, unary, await_expression, yield_expression, constructed_by, new_expression, second_argument, import_options, import_call, import_expression, super_member, super_expression, literal_word, word_by, word_prefix, update_before, private_in, sign_prefix, prefix_by, prefix}
 use Rattle.js_reading.proofs.Utf8.{regexp_utf8}
-use Rattle.js_reading.proofs.Each.{Each, each_none, each_some, each_bind, each_weaker, each_if, not_true, or_cases, or_both, not_false, there, seen, seen_word, on_same_line, expect_each, expect_word_each}
+use Rattle.js_reading.proofs.Each.{Each, each_none, each_some, each_bind, each_if, not_true, not_false, there, seen, seen_word, on_same_line, expect_each, expect_word_each}
 use Rattle.js_reading.proofs.Covers.{Covers, is_open, is_solid, closed_covers}
-use Rattle.js_reading.proofs.SoundParts.{Good, Callees, StandsHigh, part_each, expression_each, arguments_each, template_each}
+use Rattle.js_reading.proofs.SoundParts.{Good, Callees, part_each, arguments_each, template_each}
 use Rattle.js_reading.proofs.SoundFunctions.{function_each}
 use Rattle.js_reading.proofs.SoundLiterals.{as_word, as_sign, array_each, object_each, class_each}
-use Rattle.js_reading.proofs.SoundMembers.{arrow_each, parenthesized_each, async_parenthesized_each, named_each, async_name_each, dotted_each, computed_each, called_each}
+use Rattle.js_reading.proofs.SoundMembers.{parenthesized_each, async_parenthesized_each, named_each, async_name_each, dotted_each, computed_each, called_each}
 
 -- what a tree that is found by itself comes to
 found_at : {i : Bool} {n : ℕ} {t : Term} {a b : Text} → IsUtf8 b → is_open t ≡ false → is_solid t ≡ true → Stands i n t a b → Each (λ f c. Covers i 0 f a c) (at n t b)

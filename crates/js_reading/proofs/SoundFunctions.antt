@@ -1,21 +1,20 @@
 -- Functions that are read are spelled.
-use Rattle.std.proofs.Common.{◌≡◌, ◌≤◌, ℕ, zero, suc, Bool, true, false, not, ◌&&◌, ◌||◌, if◌then◌else◌, List, [], ◌∷◌, ◌++◌, length, Option, Some, None, refl, sym, subst, ◌∙◌, ap, append_assoc, append-nil, codes}
+use Rattle.std.proofs.Common.{◌≡◌, ℕ, zero, suc, Bool, true, false, not, ◌&&◌, List, [], ◌∷◌, ◌++◌, length, Option, Some, None, refl, sym, subst, ◌∙◌, append_assoc, append-nil, codes}
 use Rattle.std.specs.Str.{IsUtf8}
 use Rattle.js_term.specs.Term.{Text, Term, absent}
 use Rattle.js_term.specs.declared.kind.Kind.{Kind}
 use Rattle.js_term.specs.Lexeme.{is_reserved}
-use Rattle.js_term.specs.Node.{binding_of}
-use Rattle.js_syntax.specs.Nodes.{of_text, of_part, parameter_of}
+use Rattle.js_syntax.specs.Nodes.{of_text, parameter_of}
 use Rattle.js_syntax.specs.Tokens.{Lexeme, word, private_name, number, big_integer, string, no_substitution, template_head, sign, regexp, template_middle, template_tail, Token, Word, Sign}
-use Rattle.js_syntax.specs.Edges.{full, last_absent}
+use Rattle.js_syntax.specs.Edges.{full}
 use Rattle.js_syntax.specs.Spelling.{Stands, Item, Listed, Rested, Rest, Async, Star, Naming, Semicolon, Pattern, Parameters, Body, Directives, Statements, FunctionText, MethodFunction}
 use Rattle.js_syntax.specs.Spelling as spell
 use Rattle.js_tokens.specs.Next.{lexeme, after}
 use Rattle.js_reading.specs.declared.goal.Goal.{Goal}
 use Rattle.js_reading.specs.declared.goal.Goal.TheVariants as goal
-use Rattle.js_reading.specs.Reading.{Found, Reading, ◌>>=◌, either, sees, semicolon}
-use Rattle.js_reading.specs.Functions.{star, naming_by, naming, Parameters as Listing, no_rest, rest_last, directive_by, directives, bound, initializer, parameter, parameter_items, parameter_list, parameters, statements, enclosed, body, function, method_function}
-use Rattle.js_reading.proofs.Each.{Each, each_none, each_some, each_bind, each_weaker, each_if, There, there, seen, expect_each, semicolon_each}
+use Rattle.js_reading.specs.Reading.{Found, Reading, either, sees}
+use Rattle.js_reading.specs.Functions.{star, naming_by, naming, Parameters as Listing, directive_by, directives, bound, initializer, parameter, parameter_items, parameter_list, parameters, statements, enclosed, body, function, method_function}
+use Rattle.js_reading.proofs.Each.{Each, each_none, each_some, each_bind, each_weaker, each_if, there, seen, expect_each, semicolon_each}
 use Rattle.js_reading.proofs.ArrowParameters.{parameters_present}
 use Rattle.js_reading.proofs.SoundParts.{Good, part_each}
 use Rattle.js_reading.proofs.Directing.{apart}

@@ -1,13 +1,13 @@
 -- Arrays, objects and classes that are read are spelled, or may become targets.
-use Rattle.std.proofs.Common.{◌≡◌, ◌≤◌, ℕ, zero, suc, Bool, true, false, not, ◌&&◌, ◌||◌, if◌then◌else◌, List, [], ◌∷◌, ◌++◌, length, Option, Some, None, refl, sym, subst, ◌∙◌, ap, append_assoc, append-nil, codes}
+use Rattle.std.proofs.Common.{◌≡◌, ℕ, zero, suc, Bool, true, false, ◌&&◌, ◌||◌, List, [], ◌∷◌, ◌++◌, length, Option, Some, None, refl, sym, subst, ◌∙◌, append_assoc, append-nil, codes}
 use Rattle.std.specs.Str.{IsUtf8}
 use Rattle.std.proofs.lemmas.Bool.{and_parts}
-use Rattle.js_term.specs.Term.{Text, is_text, Term, absent, all}
+use Rattle.js_term.specs.Term.{Text, is_text, Term, absent}
 use Rattle.js_term.specs.declared.kind.Kind.{Kind}
 use Rattle.js_term.specs.Lexeme.{is_reserved}
 use Rattle.js_term.specs.Node.{name_of}
-use Rattle.js_syntax.specs.Nodes.{property, method_node, field_node}
-use Rattle.js_syntax.specs.Tokens.{Lexeme, word, private_name, number, big_integer, string, no_substitution, template_head, sign, regexp, template_middle, template_tail, Token, Word, Sign}
+use Rattle.js_syntax.specs.Nodes.{property, method_node}
+use Rattle.js_syntax.specs.Tokens.{Lexeme, word, private_name, number, big_integer, string, no_substitution, template_head, sign, regexp, template_middle, template_tail, Word, Sign}
 use Rattle.js_syntax.specs.Edges.{no_private, is_constructor, field_edge}
 use Rattle.js_syntax.specs.Spelling.{Stands, Item, Async, Star, Static, Key, MemberKey, Method, Accessor, MethodFunction, Initializer, Heritage, Elements, ClassElement, ClassText}
 use Rattle.js_syntax.specs.Spelling as spell
@@ -15,16 +15,15 @@ use Rattle.js_syntax.proofs.Fronts.{same_text}
 use Rattle.js_tokens.specs.Next.{lexeme, after}
 use Rattle.js_reading.specs.declared.goal.Goal.{Goal}
 use Rattle.js_reading.specs.declared.goal.Goal.TheVariants as goal
-use Rattle.js_reading.specs.Reading.{Found, closed, Reading, ◌>>=◌, sees, sees_word, same_line, begins_key_at, trees}
-use Rattle.js_reading.specs.Targets.{target_of, target_property}
-use Rattle.js_reading.specs.Parts.{Key as Keyed, key, element, spread_of}
-use Rattle.js_reading.specs.Functions.{star}
+use Rattle.js_reading.specs.Reading.{Found, Reading, ◌>>=◌, sees, sees_word, same_line, begins_key_at}
+use Rattle.js_reading.specs.Targets.{target_property}
+use Rattle.js_reading.specs.Parts.{Key as Keyed, key, element}
 use Rattle.js_reading.specs.Literals.{modifies_method, modifies_element, is_accessor, takes_comma, array, marked_method, accessor_property, valued, behind_key, shorthand, named_property, property_by, property_item, object, heritage, element_function, method_kind, field, plain_element, word_element, element_by, marked_element, static_block, static_element, class_element, elements, class}
 use Rattle.js_reading.proofs.Each.{Each, each_none, each_some, each_bind, each_weaker, each_if, or_cases, there, seen, seen_word, on_same_line, expect_each, semicolon_each}
 use Rattle.js_reading.proofs.Chains.{group_each}
 use Rattle.js_reading.proofs.Covers.{Covers, Raw, RawProperty, raw_pair, raw_function, raw_short, raw_default, raw_rest, array_covers, object_covers}
 use Rattle.js_reading.proofs.SoundParts.{Good, part_each, spread_each, element_each, key_each, member_key_each}
-use Rattle.js_reading.proofs.SoundFunctions.{Initial, no_initial, initial, Enclosed, star_each, naming_each, initializer_each, enclosed_each, method_function_each}
+use Rattle.js_reading.proofs.SoundFunctions.{Initial, no_initial, initial, star_each, naming_each, initializer_each, enclosed_each, method_function_each}
 
 -- an expression is no private name
 public_stands : {i : Bool} {n : ℕ} {e : Term} {a b : Text} → Stands i n e a b → no_private e ≡ true

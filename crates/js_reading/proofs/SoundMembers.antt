@@ -1,29 +1,26 @@
 -- Arrows, members, calls and what stands in parentheses: what is read is spelled.
-use Rattle.std.proofs.Common.{◌≡◌, ◌≤◌, ℕ, zero, suc, Bool, true, false, not, ◌&&◌, ◌||◌, if◌then◌else◌, nat_le, List, [], ◌∷◌, ◌++◌, length, Option, Some, None, refl, sym, subst, ◌∙◌, ap, arith, codes}
+use Rattle.std.proofs.Common.{◌≡◌, ◌≤◌, ℕ, zero, suc, Bool, true, false, ◌||◌, if◌then◌else◌, List, [], ◌∷◌, length, Option, Some, None, refl, ◌∙◌, arith, codes}
 use Rattle.std.specs.Str.{IsUtf8}
 use Rattle.std.proofs.lemmas.Bool.{and_parts}
-use Rattle.js_term.specs.Term.{Text, is_text, Term, absent, all, two}
+use Rattle.js_term.specs.Term.{Text, is_text, Term, all}
 use Rattle.js_term.specs.declared.kind.Kind.{Kind}
 use Rattle.js_term.specs.Lexeme.{is_reserved}
-use Rattle.js_term.specs.Node.{identifier_of, parenthesized_of}
-use Rattle.js_syntax.specs.Nodes.{marked, super_of, call_link}
+use Rattle.js_syntax.specs.Nodes.{call_link}
 use Rattle.js_syntax.specs.Parts.{is_node}
-use Rattle.js_syntax.specs.Tokens.{Lexeme, word, private_name, number, big_integer, string, no_substitution, template_head, sign, regexp, template_middle, template_tail, Token, Word, Sign, SameLine}
-use Rattle.js_syntax.specs.Edges.{begins_with_brace, is_private_member}
+use Rattle.js_syntax.specs.Tokens.{Lexeme, word, private_name, number, big_integer, string, no_substitution, template_head, sign, regexp, template_middle, template_tail, Word, Sign, SameLine}
+use Rattle.js_syntax.specs.Edges.{begins_with_brace}
 use Rattle.js_syntax.specs.Spelling.{Stands, Expression, Listed, Async, ArrowHead, ArrowBody, Arguments, Dot, Optional, Access, Link, Spine, Parameters}
 use Rattle.js_syntax.specs.Spelling as spell
-use Rattle.js_syntax.proofs.Fronts.{same_text}
 use Rattle.js_tokens.specs.Next.{lexeme, after}
 use Rattle.js_reading.specs.declared.goal.Goal.{Goal}
-use Rattle.js_reading.specs.declared.goal.Goal.TheVariants as goal
-use Rattle.js_reading.specs.Reading.{Found, closed, Reading, ◌>>=◌, sees, same_line, arrow_here, trees, joined, any_cover}
+use Rattle.js_reading.specs.Reading.{Found, Reading, ◌>>=◌, sees, same_line, arrow_here, trees, joined, any_cover}
 use Rattle.js_reading.specs.Parts.{item}
-use Rattle.js_reading.specs.Expressions.{at, named_parameters, parameters_in, any_spread, arrow_body, arrow, arrow_by, parenthesized_by, parenthesized, async_call, async_parenthesized, named, dotted_by, dotted, computed, called, super_member, optional_by, optional_link, link_by, is_link, operator_text, links, chain}
+use Rattle.js_reading.specs.Expressions.{named_parameters, parameters_in, any_spread, arrow_body, arrow, arrow_by, parenthesized_by, parenthesized, async_parenthesized, named, dotted_by, dotted, computed, called, optional_by, optional_link, link_by, is_link, operator_text, links, chain}
 use Rattle.js_reading.proofs.Each.{Each, each_none, each_some, each_bind, each_weaker, each_if, or_both, there, seen, on_same_line, expect_each}
-use Rattle.js_reading.proofs.Chains.{Chain, only, link, Held, held_none, held_some, held_comma, group_each}
+use Rattle.js_reading.proofs.Chains.{Chain, only, link, Held, held_some, group_each}
 use Rattle.js_reading.proofs.Covers.{Covers, closed_covers, Raw, raw, raw_spread, raw_argument, held_group}
 use Rattle.js_reading.proofs.ArrowParameters.{arrow_parameters_there}
-use Rattle.js_reading.proofs.SoundParts.{Good, StandsHigh, joined_stands, part_each, expression_each, item_each, arguments_each}
+use Rattle.js_reading.proofs.SoundParts.{Good, joined_stands, part_each, expression_each, item_each, arguments_each}
 use Rattle.js_reading.proofs.SoundFunctions.{body_each}
 use Rattle.js_reading.proofs.SoundLiterals.{as_sign}
 use Rattle.js_reading.proofs.Opens.{expression_opens}

@@ -1,25 +1,24 @@
 -- Modules that are read are spelled.
-use Rattle.std.proofs.Common.{◌≡◌, ◌≤◌, ℕ, zero, suc, Bool, true, false, not, ◌&&◌, ◌||◌, if◌then◌else◌, List, [], ◌∷◌, ◌++◌, length, Option, Some, None, refl, sym, subst, ◌∙◌, ap, append_assoc, append-nil, codes}
+use Rattle.std.proofs.Common.{◌≡◌, ℕ, zero, suc, Bool, true, false, ◌&&◌, ◌||◌, if◌then◌else◌, List, [], ◌∷◌, ◌++◌, length, Option, Some, None, refl, sym, subst, ◌∙◌, append_assoc, append-nil, codes}
 use Rattle.std.specs.Str.{IsUtf8}
 use Rattle.std.proofs.lemmas.Bool.{and_parts}
 use Rattle.js_term.specs.Term.{Text, is_text, Term, absent, list, all}
 use Rattle.js_term.specs.declared.kind.Kind.{Kind}
 use Rattle.js_term.specs.Lexeme.{is_reserved}
-use Rattle.js_term.specs.Node.{identifier_of, name_of, string_of, specifier_of, export_declaration_of}
-use Rattle.js_syntax.specs.Nodes.{of_part, of_parts, of_list, export_specifier_of}
+use Rattle.js_term.specs.Node.{identifier_of, string_of}
+use Rattle.js_syntax.specs.Nodes.{of_parts, of_list, export_specifier_of}
 use Rattle.js_syntax.specs.Tokens.{Lexeme, word, private_name, number, big_integer, string, no_substitution, template_head, sign, regexp, template_middle, template_tail, Token, Word, Sign, AtEnd}
-use Rattle.js_syntax.specs.Edges.{exports, plain, edge, begins_with_brace, begins_with_definition, is_string_statement, begins_with_string}
+use Rattle.js_syntax.specs.Edges.{exports, plain, edge, is_string_statement, begins_with_string}
 use Rattle.js_syntax.specs.Spelling.{Async, Statement, Declaration, Directives, Semicolon, FunctionText, ClassText}
 use Rattle.js_syntax.specs.Spelling as spell
 use Rattle.js_syntax.specs.Modules.{ExportName, Side, Specifier, Specifiers, Braced, Namespace, ImportClause, From, Default, ModuleItem, ModuleItems}
 use Rattle.js_syntax.specs.Modules as module'
 use Rattle.js_tokens.specs.Next.{lexeme, after}
 use Rattle.js_reading.specs.declared.goal.Goal.{Goal}
-use Rattle.js_reading.specs.declared.goal.Goal.TheVariants as goal
-use Rattle.js_reading.specs.Reading.{Found, Reading, ◌>>=◌, sees, sees_word, same_line, at_end}
+use Rattle.js_reading.specs.Reading.{Found, Reading, sees, sees_word, same_line, at_end}
 use Rattle.js_reading.specs.Functions.{directive_by}
 use Rattle.js_reading.specs.Statements.{is_declaring, begins_async_function, inner}
-use Rattle.js_reading.specs.Modules.{Exported, called, quoted, exported_tree, exported_by, exported, imported_same, imported, imports, namespace, default_import, behind_default, import_clause, from_source, bare_import, import_from, Pair, exported_pair, pairs, local_name, local_by, indirect_specifier, local_with, local_specifiers, indirect_specifiers, exports_by, export_pairs, all_of, all_name, export_all, default_expression, default_word, default_by, default, declaration_word, exported_declaration, export_by, export_item, import_by, item_by, module_item, module_items, module_body}
+use Rattle.js_reading.specs.Modules.{Exported, called, quoted, exported_tree, exported_by, exported, imported_same, imported, imports, namespace, behind_default, import_clause, from_source, bare_import, import_from, Pair, exported_pair, pairs, local_name, local_by, indirect_specifier, local_with, local_specifiers, indirect_specifiers, exports_by, export_pairs, all_of, all_name, export_all, default_expression, default_word, default_by, default, declaration_word, exported_declaration, export_by, export_item, import_by, item_by, module_item, module_items, module_body}
 use Rattle.js_reading.proofs.Each.{Each, each_none, each_some, each_bind, each_weaker, each_if, there, seen, seen_word, on_same_line, is_end, expect_each, expect_word_each, binding_each, string_each, semicolon_each}
 use Rattle.js_reading.proofs.Chains.{Chain, only, link, Held, held_none, held_some, held_comma, group_each}
 use Rattle.js_reading.proofs.Directing.{no_string}

@@ -1,10 +1,8 @@
 -- Lists of expressions, arguments, keys and templates that are read are spelled.
-use Rattle.std.proofs.Common.{◌≡◌, ◌≤◌, ℕ, zero, suc, Bool, true, false, not, ◌&&◌, ◌||◌, if◌then◌else◌, nat_le, List, [], ◌∷◌, ◌++◌, length, Option, Some, None, refl, sym, subst, ◌∙◌, ap, append_assoc, append-nil, arith, codes}
+use Rattle.std.proofs.Common.{◌≡◌, ◌≤◌, ℕ, zero, suc, Bool, true, false, nat_le, List, [], ◌∷◌, ◌++◌, length, Option, Some, None, refl, sym, subst, ◌∙◌, append_assoc, append-nil, codes}
 use Rattle.std.specs.Str.{IsUtf8}
-use Rattle.std.proofs.lemmas.Bool.{and_parts}
-use Rattle.js_term.specs.Term.{Text, is_text, Term, absent, all}
-use Rattle.js_term.specs.Node.{name_of, string_of, number_of, sequence_of}
-use Rattle.js_syntax.specs.Tokens.{Lexeme, word, private_name, number, big_integer, string, no_substitution, template_head, sign, regexp, template_middle, template_tail, Token, Word, Sign}
+use Rattle.js_term.specs.Term.{Text, is_text, Term, absent}
+use Rattle.js_syntax.specs.Tokens.{Lexeme, word, private_name, number, big_integer, string, no_substitution, template_head, sign, regexp, template_middle, template_tail, Token, Sign}
 use Rattle.js_syntax.specs.Spelling.{Stands, Expression, Item, Listed, Group, BareNew, Template, TemplateRest, Key, MemberKey, Pattern, Statement}
 use Rattle.js_syntax.specs.Spelling as spell
 use Rattle.js_syntax.proofs.Fronts.{same_text}
@@ -12,8 +10,8 @@ use Rattle.js_tokens.specs.Next.{Cut, lexeme, after, next_tail}
 use Rattle.js_tokens.proofs.GoalLaws.{tail_token_found}
 use Rattle.js_reading.specs.declared.goal.Goal.{Goal}
 use Rattle.js_reading.specs.declared.goal.Goal.TheVariants as goal
-use Rattle.js_reading.specs.Reading.{Found, closed, Reading, ◌>>=◌, sees, expect, separated, group, joined, trees, any_cover}
-use Rattle.js_reading.specs.Parts.{settled, uncovered, spread_of, Key as Keyed, quasi, is_allowed, Quasis, part, expression, spread, item, element, argument, arguments, computed_key, key_by, key, member_key_by, member_key, quasi_by, template_rest, template_by}
+use Rattle.js_reading.specs.Reading.{Found, closed, Reading, sees, separated, joined, trees, any_cover}
+use Rattle.js_reading.specs.Parts.{spread_of, quasi, is_allowed, Quasis, part, expression, spread, item, element, argument, arguments, computed_key, key_by, key, member_key_by, member_key, quasi_by, template_rest, template_by}
 use Rattle.js_reading.proofs.Utf8.{tail_utf8}
 use Rattle.js_reading.proofs.Each.{Each, each_none, each_some, each_bind, each_weaker, each_if, there, seen, expect_each}
 use Rattle.js_reading.proofs.Chains.{Chain, only, link, Held, held_none, held_some, held_comma, separated_each, group_each}

@@ -1,31 +1,29 @@
 -- Statements that are read are spelled.
-use Rattle.std.proofs.Common.{◌≡◌, ◌≤◌, ℕ, zero, suc, Bool, true, false, not, ◌&&◌, ◌||◌, if◌then◌else◌, List, [], ◌∷◌, ◌++◌, length, Option, Some, None, refl, sym, subst, ◌∙◌, ap, append_assoc, append-nil, codes}
+use Rattle.std.proofs.Common.{◌≡◌, ℕ, zero, suc, Bool, true, false, not, ◌&&◌, ◌||◌, if◌then◌else◌, List, [], ◌∷◌, ◌++◌, length, Option, Some, None, refl, sym, subst, ◌∙◌, append_assoc, append-nil, codes}
 use Rattle.std.specs.Str.{IsUtf8}
 use Rattle.std.proofs.lemmas.Bool.{and_parts}
 use Rattle.js_term.specs.Term.{Text, is_text, Term, absent, list, all, two}
 use Rattle.js_term.specs.declared.kind.Kind.{Kind}
-use Rattle.js_term.specs.Lexeme.{is_reserved, is_one_of}
-use Rattle.js_term.specs.Node.{return_of, sequence_of}
+use Rattle.js_term.specs.Lexeme.{is_reserved}
+use Rattle.js_term.specs.Node.{sequence_of}
 use Rattle.js_syntax.specs.Nodes.{of_part, three, declarator_of, case_of}
 use Rattle.js_syntax.specs.Printable.{ends_open, is_named, is_switch, is_try}
-use Rattle.js_syntax.specs.Tokens.{Lexeme, word, private_name, number, big_integer, string, no_substitution, template_head, sign, regexp, template_middle, template_tail, Token, Word, Sign, SameLine}
-use Rattle.js_syntax.specs.Tokens as token
-use Rattle.js_syntax.specs.Edges.{plain, edge, declared_edge, is_unnamed, is_body, begins_with_brace, begins_with_definition}
+use Rattle.js_syntax.specs.Tokens.{Lexeme, word, private_name, number, big_integer, string, no_substitution, template_head, sign, regexp, template_middle, template_tail, Word, Sign}
+use Rattle.js_syntax.specs.Edges.{plain, edge, declared_edge, is_unnamed, is_body}
 use Rattle.js_syntax.specs.Spelling.{Stands, Expression, Item, Listed, Async, Pattern, Target, Statement, Statements, Block, Embedded, Declaration, Variables, Perhaps, ForInit, ForLeft, Label, Cases, Handler, Finalizer, Semicolon}
 use Rattle.js_syntax.specs.Spelling as spell
 use Rattle.js_tokens.specs.Next.{lexeme, after}
 use Rattle.js_reading.specs.declared.goal.Goal.{Goal}
 use Rattle.js_reading.specs.declared.goal.Goal.TheVariants as goal
-use Rattle.js_reading.specs.Reading.{Found, Reading, ◌>>=◌, is_sign, is_word, sees, sees_word, same_line, separated, left_out}
+use Rattle.js_reading.specs.Reading.{Found, Reading, ◌>>=◌, is_sign, is_word, sees, sees_word, same_line, left_out}
 use Rattle.js_reading.specs.Targets.{target_of, pattern_of}
-use Rattle.js_reading.specs.Parts.{part, settled}
 use Rattle.js_reading.specs.Expressions.{target_in}
-use Rattle.js_reading.specs.Statements.{is_declaring, ends_here, begins_async_function, Head, initial, repeated, left_by, tree_at, bound_in, destructured, sees_each, pattern, inner, embedded, condition, block, declarator, declarators, variables, is_named_tree, function_declaration, class_declaration, ended, effect, return_statement, throw_statement, label, jump, alternate, if_statement, while_statement, do_statement, more_declarators, declared_head, more_expressions, found_head, head_by, head, perhaps, for_plain, for_in, for_of_each, for_repeated, for_by, for_await_by, for_statement, case_statements, case_test, case_clause, cases, switch_statement, catch_clause, handler, finalizer, try_statement, labeled, plain_statement, loop_statement, other_statement, word_statement, statement_by, statement}
-use Rattle.js_reading.proofs.Each.{Each, each_none, each_some, each_bind, each_weaker, each_if, not_true, not_false, or_cases, or_both, there, seen, seen_word, on_same_line, expect_each, expect_word_each, binding_each, semicolon_each, do_end_each}
+use Rattle.js_reading.specs.Statements.{is_declaring, ends_here, begins_async_function, Head, initial, repeated, left_by, tree_at, bound_in, destructured, sees_each, pattern, inner, embedded, condition, block, declarator, declarators, variables, function_declaration, class_declaration, ended, effect, return_statement, throw_statement, label, jump, alternate, if_statement, while_statement, do_statement, more_declarators, declared_head, more_expressions, found_head, head_by, head, perhaps, for_plain, for_in, for_of_each, for_repeated, for_by, for_await_by, for_statement, case_statements, case_test, case_clause, cases, switch_statement, catch_clause, handler, finalizer, try_statement, labeled, plain_statement, loop_statement, other_statement, word_statement, statement_by, statement}
+use Rattle.js_reading.proofs.Each.{Each, each_none, each_some, each_bind, each_weaker, each_if, not_true, not_false, there, seen, seen_word, on_same_line, expect_each, expect_word_each, binding_each, semicolon_each, do_end_each}
 use Rattle.js_reading.proofs.Chains.{separated_each}
 use Rattle.js_reading.proofs.Covers.{Covers}
 use Rattle.js_reading.proofs.Patterns.{pattern_there}
-use Rattle.js_reading.proofs.SoundParts.{Good, Fits, part_each, listed_each, expression_each}
+use Rattle.js_reading.proofs.SoundParts.{Good, part_each, listed_each, expression_each}
 use Rattle.js_reading.proofs.SoundFunctions.{Initial, no_initial, Enclosed, bound_each, initializer_each, enclosed_each, function_each}
 use Rattle.js_reading.proofs.SoundFunctions as functions
 use Rattle.js_reading.proofs.SoundLiterals.{as_word, as_sign, array_each, object_each, class_each}

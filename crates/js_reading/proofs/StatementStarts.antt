@@ -1,18 +1,17 @@
 -- With what the text of a statement begins, and what may follow one.
-use Rattle.std.proofs.Common.{◌≡◌, ◌≤◌, ◌<◌, ℕ, suc, Bool, true, false, not, ◌&&◌, ◌||◌, if◌then◌else◌, List, [], ◌∷◌, length, map, Option, Some, None, refl, sym, subst, ◌∙◌, ap, arith, codes}
-use Rattle.std.specs.List.{list_all}
+use Rattle.std.proofs.Common.{◌≡◌, ◌≤◌, ◌<◌, ℕ, suc, Bool, true, false, ◌&&◌, ◌||◌, List, [], ◌∷◌, length, map, Option, Some, None, refl, sym, ◌∙◌, ap, codes}
 use Rattle.std.specs.Str.{IsUtf8}
-use Rattle.std.proofs.lemmas.Bool.{false≢true, not-true}
+use Rattle.std.proofs.lemmas.Bool.{false≢true}
 use Rattle.js_term.specs.Term.{Text, is_text, Term, depth}
 use Rattle.js_term.specs.Lexeme.{is_one_of}
 use Rattle.js_syntax.specs.Printable.{ends_open}
 use Rattle.js_syntax.specs.Tokens.{Lexeme, word, private_name, number, big_integer, string, no_substitution, template_head, sign, regexp, template_middle, template_tail}
-use Rattle.js_tokens.specs.Next.{lexeme, after}
-use Rattle.js_reading.specs.Reading.{Reading, is_sign, is_word, sees, sees_word, at_end}
+use Rattle.js_tokens.specs.Next.{lexeme}
+use Rattle.js_reading.specs.Reading.{is_sign, is_word, sees, sees_word, at_end}
 use Rattle.js_reading.specs.Statements.{statement}
 use Rattle.js_reading.specs.Read.{read}
 use Rattle.js_reading.proofs.Each.{sign_is, word_is, is_end as at_its_end}
-use Rattle.js_reading.proofs.TokensThere.{Seen, see_sign, sees_by, sees_word_by}
+use Rattle.js_reading.proofs.TokensThere.{Seen, sees_by}
 use Rattle.js_reading.proofs.TokensEnd.{end_lexeme}
 use Rattle.js_reading.proofs.Opens.{begins, begins_by}
 

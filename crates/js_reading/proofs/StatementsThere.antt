@@ -1,34 +1,29 @@
 -- Statements that stand in a text are read, from what is read of their parts.
-use Rattle.std.proofs.Common.{◌≡◌, ◌≤◌, ◌<◌, ℕ, zero, suc, Bool, true, false, not, ◌&&◌, ◌||◌, if◌then◌else◌, List, [], ◌∷◌, ◌++◌, length, Option, Some, None, refl, sym, subst, ◌∙◌, ap, append_assoc, append-nil, arith, codes}
+use Rattle.std.proofs.Common.{◌≡◌, ◌≤◌, ◌<◌, ℕ, zero, suc, Bool, true, false, ◌&&◌, List, [], ◌∷◌, ◌++◌, length, Some, refl, sym, ◌∙◌, ap, append_assoc, append-nil, arith, codes}
 use Rattle.std.specs.Str.{IsUtf8}
-use Rattle.std.proofs.lemmas.Bool.{false≢true, not-true}
-use Rattle.js_term.specs.Term.{Text, is_text, Term, absent, list, node, none, all, one, two, depth, depths}
+use Rattle.js_term.specs.Term.{Text, Term, absent, list, node, all, depth, depths}
 use Rattle.js_term.specs.declared.kind.Kind.{Kind}
-use Rattle.js_term.specs.Lexeme.{is_reserved}
-use Rattle.js_term.specs.Node.{statement_of, return_of}
-use Rattle.js_syntax.specs.Nodes.{alone, of_part, of_parts, block_of, label_of, if_of}
+use Rattle.js_term.specs.Node.{return_of}
+use Rattle.js_syntax.specs.Nodes.{alone, of_part, of_parts, block_of, if_of}
 use Rattle.js_syntax.specs.Printable.{ends_open}
-use Rattle.js_syntax.specs.Tokens.{Lexeme, word, sign}
+use Rattle.js_syntax.specs.Tokens.{word, sign}
 use Rattle.js_syntax.specs.Edges.{plain, edge, is_body}
 use Rattle.js_syntax.specs.Spelling.{Semicolon, DoEnd}
-use Rattle.js_tokens.specs.Next.{lexeme, after}
+use Rattle.js_tokens.specs.Next.{lexeme}
 use Rattle.js_reading.specs.declared.goal.Goal.{Goal}
 use Rattle.js_reading.specs.declared.goal.Goal.TheVariants as goal
-use Rattle.js_reading.specs.Reading.{Found, closed, Reading, ◌>>=◌, sees, sees_word, same_line, expect, semicolon, left_out}
-use Rattle.js_reading.specs.Parts.{expression}
+use Rattle.js_reading.specs.Reading.{Found, closed, Reading, sees, sees_word, same_line, left_out}
 use Rattle.js_reading.specs.Functions.{statements, enclosed}
-use Rattle.js_reading.specs.Expressions.{at}
-use Rattle.js_reading.specs.Statements.{inner, embedded, condition, block, ended, effect, return_statement, throw_statement, ends_here, alternate, if_statement, while_statement, do_statement, word_statement, statement_by, statement, label, jump}
+use Rattle.js_reading.specs.Statements.{inner, embedded, condition, block, ended, return_statement, throw_statement, ends_here, alternate, if_statement, while_statement, do_statement, word_statement, statement}
 use Rattle.js_reading.specs.Read.{read}
-use Rattle.js_reading.proofs.TokensThere.{Seen, see_sign, sees_by, sees_word_by, expect_read, expect_word_read, binding_read}
-use Rattle.js_reading.proofs.TokensEnd.{semicolon_read, semicolon_utf8, semicolon_short, ended as ended_at, Ended, by_sign, by_stop, do_end_read, do_end_utf8, do_end_short}
+use Rattle.js_reading.proofs.TokensThere.{Seen, sees_by, sees_word_by, expect_read, expect_word_read}
+use Rattle.js_reading.proofs.TokensEnd.{semicolon_utf8, semicolon_short, do_end_read, do_end_utf8, do_end_short}
 use Rattle.js_tokens.proofs.Shorter.{token_shorter}
 use Rattle.js_reading.proofs.Each.{seen}
-use Rattle.js_reading.proofs.Lists.{is_end, ending_end, sees_sign}
+use Rattle.js_reading.proofs.Lists.{is_end, sees_sign}
 use Rattle.js_reading.proofs.Listings.{IsReadExpression, expression_before}
-use Rattle.js_reading.proofs.Follows.{Ends}
 use Rattle.js_reading.proofs.Claims.{IsReadStatements}
-use Rattle.js_reading.proofs.Ending.{behind_semicolon}
+use Rattle.js_reading.proofs.Jumping as jumping
 use Rattle.js_reading.proofs.Opens.{begins, no_sign_there}
 use Rattle.js_reading.proofs.StatementStarts.{starts, begins_starts, starts_no_end, starts_no_sign, starts_no_word, Follows, starts_follow, token_follows, IsReadStatement}
 
@@ -73,19 +68,11 @@ only_left false h = refl
 
 -- ---- statements without parts
 
-empty_reads : (limit : ℕ) {a b : Text} → Seen (sign (codes ";")) a b → statement (read limit) a ≡ Some (alone Kind.EmptyStatement, b)
-unfolding statement
-empty_reads limit t = rw (t.lexeme_is, t.after_is)
-
 pub empty_read : {a b : Text} → Seen (sign (codes ";")) a b → IsReadStatement (alone Kind.EmptyStatement) a b
-empty_read t = record { utf8 = t.utf8; shorter = t.shorter; begun = ap starts t.lexeme_is; deep = omega arith; reads = λ limit fits w h. empty_reads limit t }
-
-debugger_reads : (limit : ℕ) {a b c : Text} → Seen (word (codes "debugger")) a b → Semicolon plain b c → statement (read limit) a ≡ Some (alone Kind.DebuggerStatement, c)
-unfolding word_statement
-debugger_reads limit t end = word_there (read limit) t ∙ rw (t.after_is, semicolon_read end t.utf8)
+empty_read t = record { utf8 = t.utf8; shorter = t.shorter; begun = ap starts t.lexeme_is; deep = omega arith; reads = λ limit fits w h. jumping.empty_statement_read (read limit) t }
 
 pub debugger_read : {a b c : Text} → Seen (word (codes "debugger")) a b → Semicolon plain b c → IsReadStatement (alone Kind.DebuggerStatement) a c
-debugger_read t end = record { utf8 = semicolon_utf8 end t.utf8; shorter = let s = t.shorter in let k = semicolon_short end t.utf8 in omega arith; begun = ap starts t.lexeme_is; deep = omega arith; reads = λ limit fits w h. debugger_reads limit t end }
+debugger_read t end = record { utf8 = semicolon_utf8 end t.utf8; shorter = let s = t.shorter in let k = semicolon_short end t.utf8 in omega arith; begun = ap starts t.lexeme_is; deep = omega arith; reads = λ limit fits w h. jumping.debugger_read (read limit) t end }
 
 -- ---- blocks
 
@@ -244,17 +231,13 @@ pub record IsReadEnding (e : Term) (a c : Text) : Type 0 where
   pub begun : begins (lexeme a) ≡ true
   pub reads : (limit : ℕ) → depth e ≤ limit → ended (read limit) a ≡ Some (e, c)
 
-ending_reads : {n : ℕ} {e : Term} {a b c : Text} (limit : ℕ) → IsReadExpression true e a b → Ends n (edge e) → Semicolon (edge e) b c → depth e ≤ limit → ended (read limit) a ≡ Some (e, c)
-unfolding ended
-ending_reads limit x ends end fits = let k = behind_semicolon x.utf8 ends (ended_at end x.utf8) in rw (x.reads limit fits k.keeps k.no_comma, semicolon_read end x.utf8)
-
-pub ending_read : {n : ℕ} {e : Term} {a b c : Text} → begins (lexeme a) ≡ true → IsReadExpression true e a b → Ends n (edge e) → Semicolon (edge e) b c → IsReadEnding e a c
-ending_read begun x ends end = record {
+pub ending_read : {e : Term} {a b c : Text} → begins (lexeme a) ≡ true → IsReadExpression true e a b → Semicolon (edge e) b c → IsReadEnding e a c
+ending_read begun x end = record {
   utf8 = semicolon_utf8 end x.utf8;
   shorter = let s = x.shorter in let k = semicolon_short end x.utf8 in omega arith;
   deep = x.deep;
   begun = begun;
-  reads = λ limit fits. ending_reads limit x ends end fits;
+  reads = λ limit fits. jumping.ended_expression x end limit fits;
 }
 
 -- an operand of `return` stands on its line
@@ -293,21 +276,11 @@ throw_read t line x = record {
   reads = λ limit fits w h. throw_reads limit t line x (omega arith);
 }
 
--- where a semicolon may stand, nothing of `return`, `break` or `continue` does
-plain_here : {a b : Text} → Ended plain a b → ends_here a ≡ true
-unfolding ends_here
-plain_here {a} (by_sign t) = rw (sees_by (codes ";") t) refl
-plain_here {a} (by_stop same stop) = let l = stop.left in let s = stop.no_semicolon in rw (s, l) refl
-
-bare_reads : {a b c : Text} (limit : ℕ) → Seen (word (codes "return")) a b → Semicolon plain b c → statement (read limit) a ≡ Some (return_of absent, c)
-unfolding word_statement return_statement
-bare_reads limit t end = word_there (read limit) t ∙ rw (t.after_is, plain_here (ended_at end t.utf8), semicolon_read end t.utf8)
-
 pub bare_return_read : {a b c : Text} → Seen (word (codes "return")) a b → Semicolon plain b c → IsReadStatement (return_of absent) a c
 bare_return_read t end = record {
   utf8 = semicolon_utf8 end t.utf8;
   shorter = let s = t.shorter in let k = semicolon_short end t.utf8 in omega arith;
   begun = ap starts t.lexeme_is;
   deep = omega arith;
-  reads = λ limit fits w h. bare_reads limit t end;
+  reads = λ limit fits w h. jumping.bare_return_read (read limit) t end;
 }

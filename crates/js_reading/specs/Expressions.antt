@@ -1,21 +1,21 @@
 -- Expressions (13, 15.3, 15.5, 15.8). What reads a part is handed in.
-use Rattle.std.specs.Prelude.{ℕ, zero, suc, List, [], ◌∷◌, ◌++◌, map, length, Option, None, Some, Bool, true, false, not, ◌&&◌, ◌||◌, if◌then◌else◌, nat_le, nat_eq, codes}
-use Rattle.js_term.specs.Term.{Text, is_text, Term, absent, list, node, Terms, none, one, two, all}
+use Rattle.std.specs.Prelude.{ℕ, zero, suc, List, [], ◌∷◌, map, length, Option, None, Some, Bool, true, false, not, ◌&&◌, ◌||◌, if◌then◌else◌, nat_le, codes}
+use Rattle.js_term.specs.Term.{Text, is_text, Term, absent, node, none, one, two, all}
 use Rattle.js_term.specs.declared.kind.Kind.{Kind}
 use Rattle.js_term.specs.Lexeme.{is_reserved, is_one_of}
 use Rattle.js_term.specs.Node.{identifier_of, binding_of, string_of, number_of, boolean_of, await_of, parenthesized_of}
 use Rattle.js_syntax.specs.Nodes.{alone, of_text, of_part, of_parts, marked, three, regexp_of, template_of, super_of, call_link, static_link, computed_link, private_of, private_link, new_of, update_of, rested, parameter_of}
 use Rattle.js_syntax.specs.Parts.{is_node}
 use Rattle.js_syntax.specs.Texts.{assignment_operators, logical_operators}
-use Rattle.js_syntax.specs.Tokens.{Lexeme, word, private_name, number, big_integer, string, regexp, no_substitution, template_head, sign}
+use Rattle.js_syntax.specs.Tokens.{Lexeme, word, private_name, number, big_integer, string, regexp, sign}
 use Rattle.js_syntax.specs.Edges.{is_simple_target, is_private_member, is_unary, is_update, binary_level, member_level}
 use Rattle.js_tokens.specs.Next.{Cut, lexeme, after, next_regexp}
 use Rattle.js_reading.specs.declared.goal.Goal.{Goal}
 use Rattle.js_reading.specs.declared.goal.Goal.TheVariants as goal
 use Rattle.js_reading.specs.Reading.{Found, closed, Reading, ◌>>=◌, sees, sees_word, same_line, at_end, arrow_here, expect, expect_word, group, joined, trees, any_cover}
-use Rattle.js_reading.specs.Operators.{or_zero, goes_on}
-use Rattle.js_reading.specs.Targets.{Items, target_of, target_elements, arrow_parameters}
-use Rattle.js_reading.specs.Parts.{Quasis, part, expression, spread, item, arguments, template_by}
+use Rattle.js_reading.specs.Operators.{goes_on}
+use Rattle.js_reading.specs.Targets.{target_of, target_elements, arrow_parameters}
+use Rattle.js_reading.specs.Parts.{Quasis, part, expression, item, arguments, template_by}
 use Rattle.js_reading.specs.Functions.{body, function}
 use Rattle.js_reading.specs.Literals.{is_barred, array, object, class}
 

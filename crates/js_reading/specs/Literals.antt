@@ -1,13 +1,13 @@
 -- Arrays, objects and classes (13.2.4, 13.2.5, 15.7). What reads a part is handed in.
-use Rattle.std.specs.Prelude.{ℕ, zero, suc, List, [], ◌∷◌, ◌++◌, length, Option, None, Some, Bool, true, false, not, ◌&&◌, ◌||◌, if◌then◌else◌, codes}
-use Rattle.js_term.specs.Term.{Text, is_text, Term, absent, list, node, all}
+use Rattle.std.specs.Prelude.{ℕ, zero, suc, List, [], ◌∷◌, ◌++◌, length, Option, None, Some, Bool, true, false, ◌&&◌, ◌||◌, if◌then◌else◌, codes}
+use Rattle.js_term.specs.Term.{Text, is_text, Term, absent, all}
 use Rattle.js_term.specs.declared.kind.Kind.{Kind}
 use Rattle.js_term.specs.Lexeme.{is_reserved, is_one_of}
 use Rattle.js_term.specs.Node.{name_of, identifier_of, array_of, object_of}
 use Rattle.js_syntax.specs.Nodes.{of_list, of_parts, property, pair_of, class_node, method_node, field_node}
 use Rattle.js_syntax.specs.Parts.{is_node}
 use Rattle.js_syntax.specs.Tokens.{Lexeme, word, sign}
-use Rattle.js_syntax.specs.Edges.{no_private, is_constructor, field_edge}
+use Rattle.js_syntax.specs.Edges.{is_constructor, field_edge}
 use Rattle.js_tokens.specs.Next.{lexeme, after}
 use Rattle.js_reading.specs.declared.goal.Goal.{Goal}
 use Rattle.js_reading.specs.declared.goal.Goal.TheVariants as goal

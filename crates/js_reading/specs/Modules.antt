@@ -1,5 +1,5 @@
 -- Imports, exports and whole modules (16.2). What reads a part is handed in.
-use Rattle.std.specs.Prelude.{ℕ, zero, suc, List, [], ◌∷◌, ◌++◌, length, Option, None, Some, Bool, true, false, not, ◌&&◌, ◌||◌, if◌then◌else◌, codes}
+use Rattle.std.specs.Prelude.{ℕ, zero, suc, List, [], ◌∷◌, ◌++◌, length, Option, None, Some, true, ◌&&◌, ◌||◌, if◌then◌else◌, codes}
 use Rattle.js_term.specs.Term.{Text, is_text, Term, absent, list, all}
 use Rattle.js_term.specs.declared.kind.Kind.{Kind}
 use Rattle.js_term.specs.Lexeme.{is_reserved}

@@ -1,12 +1,11 @@
 -- Expressions in a list, arguments, keys, and templates. What reads a part is handed in.
-use Rattle.std.specs.Prelude.{ℕ, zero, suc, List, [], ◌∷◌, ◌++◌, length, Option, None, Some, Bool, true, false, not, ◌&&◌, ◌||◌, if◌then◌else◌, codes}
+use Rattle.std.specs.Prelude.{ℕ, zero, suc, List, [], ◌∷◌, ◌++◌, length, Option, None, Some, Bool, true, false, not, ◌||◌, if◌then◌else◌, codes}
 use Rattle.js_term.specs.Term.{Text, is_text, Term, absent}
 use Rattle.js_term.specs.declared.kind.Kind.{Kind}
 use Rattle.js_term.specs.Node.{name_of, string_of, number_of}
 use Rattle.js_syntax.specs.Lexical.{has_sound_escapes}
 use Rattle.js_syntax.specs.Nodes.{of_text, of_part, private_of}
 use Rattle.js_syntax.specs.Tokens.{Lexeme, word, private_name, number, big_integer, string, no_substitution, template_head, template_middle, template_tail, sign}
-use Rattle.js_syntax.specs.Tokens as token
 use Rattle.js_tokens.specs.Next.{Cut, lexeme, after, next_tail}
 use Rattle.js_reading.specs.declared.goal.Goal.{Goal}
 use Rattle.js_reading.specs.declared.goal.Goal.TheVariants as goal

@@ -1,9 +1,8 @@
 -- Reading as a function: what it answers, the tokens at the front of a text, the semicolon, and lists.
 use Rattle.std.specs.Prelude.{ℕ, zero, suc, List, [], ◌∷◌, ◌++◌, map, length, Option, None, Some, Bool, true, false, not, ◌&&◌, ◌||◌, if◌then◌else◌, codes}
-use Rattle.js_term.specs.Term.{Text, is_text, Term, absent, all}
+use Rattle.js_term.specs.Term.{Text, is_text, Term, all}
 use Rattle.js_term.specs.Lexeme.{is_reserved}
-use Rattle.js_term.specs.Node.{binding_of, sequence_of}
-use Rattle.js_term.specs.declared.kind.Kind.{Kind}
+use Rattle.js_term.specs.Node.{sequence_of}
 use Rattle.js_syntax.specs.Tokens.{Lexeme, word, string, sign}
 use Rattle.js_syntax.specs.Edges.{Edge, goes_on_with, begins_key}
 use Rattle.js_tokens.specs.Gaps.{front, is_same_line, is_at_end}

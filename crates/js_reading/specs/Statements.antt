@@ -1,18 +1,18 @@
 -- Statements and declarations (14). What reads a part is handed in.
 use Rattle.std.specs.Prelude.{ℕ, zero, suc, List, [], ◌∷◌, ◌++◌, map, length, Option, None, Some, Bool, true, false, not, ◌&&◌, ◌||◌, if◌then◌else◌, codes}
-use Rattle.js_term.specs.Term.{Text, is_text, Term, absent, list, node, all, two}
+use Rattle.js_term.specs.Term.{Text, is_text, Term, absent, list, all, two}
 use Rattle.js_term.specs.declared.kind.Kind.{Kind}
 use Rattle.js_term.specs.Lexeme.{is_reserved, is_one_of}
 use Rattle.js_term.specs.Node.{binding_of, statement_of, return_of, sequence_of}
 use Rattle.js_syntax.specs.Nodes.{alone, of_part, of_parts, three, variables_of, declarator_of, block_of, label_of, for_of, for_each, case_of, if_of, try_of}
 use Rattle.js_syntax.specs.Printable.{ends_open, is_named, is_switch, is_try}
 use Rattle.js_syntax.specs.Tokens.{Lexeme, word, sign}
-use Rattle.js_syntax.specs.Edges.{Edge, plain, edge, declared_edge, is_unnamed, is_body}
+use Rattle.js_syntax.specs.Edges.{plain, edge, declared_edge, is_unnamed, is_body}
 use Rattle.js_tokens.specs.Next.{lexeme, after}
 use Rattle.js_reading.specs.declared.goal.Goal.{Goal}
 use Rattle.js_reading.specs.declared.goal.Goal.TheVariants as goal
-use Rattle.js_reading.specs.Reading.{Found, closed, Reading, ◌>>=◌, sees, sees_word, same_line, expect, expect_word, binding, left_out, semicolon, do_end, separated, joined}
-use Rattle.js_reading.specs.Targets.{target_of, pattern_of}
+use Rattle.js_reading.specs.Reading.{Found, Reading, ◌>>=◌, sees, sees_word, same_line, expect, expect_word, binding, left_out, semicolon, do_end, separated}
+use Rattle.js_reading.specs.Targets.{pattern_of}
 use Rattle.js_reading.specs.Parts.{part, expression, settled}
 use Rattle.js_reading.specs.Functions.{bound, initializer, enclosed, function}
 use Rattle.js_reading.specs.Literals.{array, object, class}

@@ -1,11 +1,10 @@
 -- What was read as an expression, as an assignment target (13.15.5), and a target as a binding pattern (14.3.3).
-use Rattle.std.specs.Prelude.{List, [], ◌∷◌, Option, None, Some, Bool, true, false, ◌&&◌, if◌then◌else◌, codes}
-use Rattle.js_term.specs.Term.{Text, is_text, Term, absent, list, node, Terms, none, more, one, two, all}
+use Rattle.std.specs.Prelude.{List, [], ◌∷◌, Option, None, Some, Bool, true, false, if◌then◌else◌, codes}
+use Rattle.js_term.specs.Term.{Text, is_text, Term, absent, list, node, Terms, none, more, two}
 use Rattle.js_term.specs.declared.kind.Kind.{Kind}
 use Rattle.js_term.specs.Node.{binding_of}
 use Rattle.js_syntax.specs.Nodes.{of_part, of_parts, rested, parameter_of}
 use Rattle.js_syntax.specs.Edges.{is_simple_target}
-use Rattle.js_syntax.specs.Sorts as sorts
 
 -- the items of a pattern, and its rest or none
 abbrev pub Items : Type 0
