@@ -22,3 +22,5 @@ pub mod Objects
 pub mod Bodies
 pub mod Statements
 pub mod Heads
+pub mod Quiet
+pub mod Whole
