@@ -1,5 +1,5 @@
 -- Statements that end with a semicolon, of which no part stands open, are read.
-use Rattle.std.proofs.Common.{◌≡◌, ◌≤◌, ℕ, true, false, Some, refl, codes}
+use Rattle.std.proofs.Common.{◌≡◌, ◌≤◌, ℕ, length, arith, true, false, Some, refl, codes}
 use Rattle.std.specs.Str.{IsUtf8}
 use Rattle.js_term.specs.Term.{Text, Term, absent, depth}
 use Rattle.js_term.specs.Lexeme.{is_reserved}
@@ -12,7 +12,7 @@ use Rattle.js_syntax.specs.Spelling.{Semicolon, Label}
 use Rattle.js_syntax.specs.Spelling as spell
 use Rattle.js_reading.specs.declared.goal.Goal.{Goal}
 use Rattle.js_reading.specs.Reading.{Found, Reading, same_line, left_out}
-use Rattle.js_reading.specs.Statements.{ends_here, ended, return_statement, throw_statement, label, jump, word_statement, statement}
+use Rattle.js_reading.specs.Statements.{ends_here, ended, return_statement, label, jump, word_statement, statement}
 use Rattle.js_reading.specs.Read.{read}
 use Rattle.js_reading.proofs.TokensThere.{Seen, see_word, sees_by, on_line, binding_read}
 use Rattle.js_reading.proofs.TokensEnd.{Ended, by_sign, by_stop, Stops, seen_not_end, semicolon_read}
@@ -32,10 +32,6 @@ debugger_read sub x end = rw (x.lexeme_is, x.after_is, semicolon_read end x.utf8
 pub ended_expression : {e : Term} {a b c : Text} → IsReadExpression true e a b → Semicolon (edge e) b c → (limit : ℕ) → depth e ≤ limit → ended (read limit) a ≡ Some (e, c)
 unfolding ended
 ended_expression r end limit fits = rw (before_semicolon r end limit fits, semicolon_read end r.utf8)
-
-pub throw_read : {e : Term} {a b c d : Text} → Seen (word (codes "throw")) a b → same_line b ≡ true → IsReadExpression true e b c → Semicolon (edge e) c d → (limit : ℕ) → depth e ≤ limit → statement (read limit) a ≡ Some (of_part Kind.ThrowStatement e, d)
-unfolding statement word_statement throw_statement
-throw_read x line r end limit fits = rw (x.lexeme_is, x.after_is, line, ended_expression r end limit fits)
 
 -- ---- what may stand bare
 
@@ -72,3 +68,11 @@ break_read sub x l end = rw (x.lexeme_is, x.after_is) (jump_read sub Kind.BreakS
 pub continue_read : (sub : Goal → Text → Reading Found) {l : Term} {a b c d : Text} → Seen (word (codes "continue")) a b → Label l b c → Semicolon plain c d → statement sub a ≡ Some (of_part Kind.ContinueStatement l, d)
 unfolding statement word_statement
 continue_read sub x l end = rw (x.lexeme_is, x.after_is) (jump_read sub Kind.ContinueStatement x.utf8 l end)
+
+pub label_utf8 : {l : Term} {a b : Text} → IsUtf8 a → Label l a b → IsUtf8 b
+label_utf8 u spell.no_label = u
+label_utf8 u (spell.a_label free line tok) = let x = see_word tok u in x.utf8
+
+pub label_short : {l : Term} {a b : Text} → IsUtf8 a → Label l a b → length b ≤ length a
+label_short u spell.no_label = omega arith
+label_short u (spell.a_label free line tok) = let x = see_word tok u in let s = x.shorter in omega arith

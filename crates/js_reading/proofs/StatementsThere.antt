@@ -8,7 +8,7 @@ use Rattle.js_syntax.specs.Nodes.{alone, of_part, of_parts, block_of, if_of}
 use Rattle.js_syntax.specs.Printable.{ends_open}
 use Rattle.js_syntax.specs.Tokens.{word, sign}
 use Rattle.js_syntax.specs.Edges.{plain, edge, is_body}
-use Rattle.js_syntax.specs.Spelling.{Semicolon, DoEnd}
+use Rattle.js_syntax.specs.Spelling.{Semicolon, DoEnd, Label}
 use Rattle.js_tokens.specs.Next.{lexeme}
 use Rattle.js_reading.specs.declared.goal.Goal.{Goal}
 use Rattle.js_reading.specs.declared.goal.Goal.TheVariants as goal
@@ -284,3 +284,19 @@ bare_return_read t end = record {
   deep = omega arith;
   reads = λ limit fits w h. jumping.bare_return_read (read limit) t end;
 }
+
+-- what `break` and `continue` share
+jump_statement : {k : Kind} {x : Text} {l : Term} {a b c d : Text} → Seen (word x) a b → starts (Some (word x)) ≡ true → Label l b c → Semicolon plain c d → ((sub : Goal → Text → Reading Found) → statement sub a ≡ Some (of_part k l, d)) → IsReadStatement (of_part k l) a d
+jump_statement t begun l end reads = let u = jumping.label_utf8 t.utf8 l in record {
+  utf8 = semicolon_utf8 end u;
+  shorter = let s1 = t.shorter in let s2 = jumping.label_short t.utf8 l in let s3 = semicolon_short end u in omega arith;
+  begun = ap starts t.lexeme_is ∙ begun;
+  deep = omega arith;
+  reads = λ limit fits w h. reads (read limit);
+}
+
+pub break_read : {l : Term} {a b c d : Text} → Seen (word (codes "break")) a b → Label l b c → Semicolon plain c d → IsReadStatement (of_part Kind.BreakStatement l) a d
+break_read t l end = jump_statement t refl l end (λ sub. jumping.break_read sub t l end)
+
+pub continue_read : {l : Term} {a b c d : Text} → Seen (word (codes "continue")) a b → Label l b c → Semicolon plain c d → IsReadStatement (of_part Kind.ContinueStatement l) a d
+continue_read t l end = jump_statement t refl l end (λ sub. jumping.continue_read sub t l end)
