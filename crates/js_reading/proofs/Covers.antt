@@ -273,7 +273,7 @@ defaulted_present : {t : Term} {a b : Text} → DefaultedTarget t a b → is_pre
 defaulted_present (spell.target_alone x) = target_present x
 defaulted_present (spell.target_default x tok e) = refl
 
-elements_more : (t : Term) (ts : Terms) → is_node Kind.SpreadElement t ≡ false → target_elements (more t ts) ≡ with_item (target_of true t) (target_elements ts)
+pub elements_more : (t : Term) (ts : Terms) → is_node Kind.SpreadElement t ≡ false → target_elements (more t ts) ≡ with_item (target_of true t) (target_elements ts)
 elements_more absent ts h = refl
 elements_more (list us) ts h = refl
 elements_more (node Kind.SpreadElement xs us) ts h = absurd (cc)
@@ -362,7 +362,7 @@ pub part_as_is : (k : Kind) (xs : List Text) (key : Term) (o : Option Term) (u :
 part_as_is k xs key None u h = absurd (cc)
 part_as_is k xs key (Some t) u h = (t, refl, cc)
 
-properties_more : (t : Term) (ts : Terms) → is_node Kind.SpreadElement t ≡ false → target_properties (more t ts) ≡ with_item (target_property t) (target_properties ts)
+pub properties_more : (t : Term) (ts : Terms) → is_node Kind.SpreadElement t ≡ false → target_properties (more t ts) ≡ with_item (target_property t) (target_properties ts)
 properties_more absent ts h = refl
 properties_more (list us) ts h = refl
 properties_more (node Kind.SpreadElement xs us) ts h = absurd (cc)

@@ -11,12 +11,13 @@ use Rattle.js_syntax.specs.Tokens.{Lexeme, word, private_name, number, big_integ
 use Rattle.js_syntax.proofs.Fronts.{among}
 use Rattle.js_tokens.specs.Next.{lexeme}
 use Rattle.js_reading.specs.declared.goal.Goal.{Goal}
+use Rattle.js_reading.specs.declared.goal.Goal.TheVariants as goal
 use Rattle.js_reading.specs.Reading.{Found, Reading, ◌>>=◌, is_sign, sees, same_line, begins_key_by, begins_key_at}
-use Rattle.js_reading.specs.Parts.{Key, key, spread}
+use Rattle.js_reading.specs.Parts.{Key, key, spread_of, spread}
 use Rattle.js_reading.specs.Literals.{modifies_method, is_accessor, pair_found, shorthand_found, valued, behind_key, shorthand, named_property, property_by, property_item}
 use Rattle.js_reading.specs.Read.{read}
 use Rattle.js_reading.proofs.TokensThere.{Seen, sees_by}
-use Rattle.js_reading.proofs.Lists.{seen_sign, is_closing, is_end, separates, is_separating, some_item, separate_item}
+use Rattle.js_reading.proofs.Lists.{seen_sign, is_closing, is_end, separates, is_separating, ReadsItem, some_item, separate_item}
 use Rattle.js_reading.proofs.Climbs.{whole, IsRead}
 use Rattle.js_reading.proofs.Listings.{StandsRead, FoundItem, found_expression}
 use Rattle.js_reading.proofs.Grouped.{property_of}
@@ -37,23 +38,23 @@ and_no true q h = h
 and_no false q h = refl
 
 -- behind a name no key and no star: it is the name of a property
-plain_name : (sub : Goal → Text → Reading Found) (x b : Text) → begins_key_at b ≡ false → sees (codes "*") b ≡ false → named_property sub x b ≡ (if sees (codes ":") b || sees (codes "(") b then behind_key sub (false, name_of x) b else shorthand sub x b)
+pub plain_name : (sub : Goal → Text → Reading Found) (x b : Text) → begins_key_at b ≡ false → sees (codes "*") b ≡ false → named_property sub x b ≡ (if sees (codes ":") b || sees (codes "(") b then behind_key sub (false, name_of x) b else shorthand sub x b)
 unfolding named_property
 plain_name sub x b h h' = rw (and_no (is_text x (codes "async")) (modifies_method b) (no_modifier b h h'), and_no (is_accessor x) (begins_key_at b) h)
 
-named_there : (sub : Goal → Text → Reading Found) {x a b : Text} → Seen (word x) a b → property_item sub a ≡ named_property sub x b
+pub named_there : (sub : Goal → Text → Reading Found) {x a b : Text} → Seen (word x) a b → property_item sub a ≡ named_property sub x b
 unfolding property_item
 named_there sub tok = rw (tok.lexeme_is, tok.after_is)
 
-seen_key : {s b c : Text} → Seen (sign s) b c → begins_key_at b ≡ is_text s (codes "[")
+pub seen_key : {s b c : Text} → Seen (sign s) b c → begins_key_at b ≡ is_text s (codes "[")
 unfolding begins_key_at
 seen_key tok = ap begins_key_by tok.lexeme_is
 
 -- ---- k: e
 
-valued_there : {n : ℕ} {e : Term} {p : Bool} {b c d : Text} (limit : ℕ) (k : Key) → Seen (sign (codes ":")) b c → IsRead true (depth e) (whole e n p) c d → depth e ≤ limit → is_end (lexeme d) ≡ true → behind_key (read limit) k b ≡ Some (pair_found k (whole e n p), d)
+pub valued_there : {f : Found} {b c d : Text} (limit : ℕ) (k : Key) → Seen (sign (codes ":")) b c → read limit (goal.Expression 2 true) c ≡ Some (f, d) → behind_key (read limit) k b ≡ Some (pair_found k f, d)
 unfolding behind_key valued
-valued_there limit k tok r fits h = rw (sees_by (codes ":") tok, tok.after_is, found_expression r limit fits h)
+valued_there limit k tok h = rw (sees_by (codes ":") tok, tok.after_is, h)
 
 -- Behind this key a property goes on.
 pub record KeyItem (computed : Bool) (k : Term) (a b : Text) : Type 0 where
@@ -144,7 +145,7 @@ property_field {n} {computed} {k} {e} x tok y = let r = y.read in let kr = x.key
   cover_is = refl;
   utf8 = y.utf8;
   reads = λ limit fits. some_item false (let s1 = kr.shorter in let s2 = tok.shorter in let s3 = r.shorter in omega arith) x.open'
-      (λ h. x.goes limit (omega arith) tok ∙ valued_there limit (computed, k) tok r (omega arith) h) (λ h. absurd (false≢true h));
+      (λ h. x.goes limit (omega arith) tok ∙ valued_there limit (computed, k) tok (found_expression r limit (omega arith) h)) (λ h. absurd (false≢true h));
 }
 
 -- ---- a name alone
@@ -182,8 +183,11 @@ alone_there : (sub : Goal → Text → Reading Found) {x : Text} (b : Text) → 
 unfolding shorthand
 alone_there sub b free h = rw (free, sees_none (codes "=") b h refl)
 
-shorthand_there : (sub : Goal → Text → Reading Found) {x a b : Text} → is_reserved x ≡ false → Seen (word x) a b → separates (lexeme b) ≡ true → property_item sub a ≡ Some (shorthand_found x, b)
+pub shorthand_there : (sub : Goal → Text → Reading Found) {x a b : Text} → is_reserved x ≡ false → Seen (word x) a b → separates (lexeme b) ≡ true → property_item sub a ≡ Some (shorthand_found x, b)
 shorthand_there sub {x} {a} {b} free tok h = named_there sub tok ∙ plain_name sub x b (begins_none b h) (sees_none (codes "*") b h refl) ∙ rw (sees_none (codes ":") b h refl, sees_none (codes "(") b h refl) (alone_there sub b free h)
+
+pub shorthand_reads : (limit : ℕ) {x a b : Text} → is_reserved x ≡ false → Seen (word x) a b → ReadsItem false false (property_of limit) (shorthand_found x) a b
+shorthand_reads limit free tok = separate_item false tok.shorter (ap is_closing tok.lexeme_is) (λ h. shorthand_there (read limit) free tok h) (λ h. absurd (false≢true h))
 
 pub shorthand_field : {x a b : Text} → is_reserved x ≡ false → Seen (word x) a b → FoundItem property_of false (property (codes "init") false true false (name_of x) (identifier_of x)) a b
 shorthand_field {x} free tok = record {
@@ -191,14 +195,14 @@ shorthand_field {x} free tok = record {
   tree_is = refl;
   cover_is = refl;
   utf8 = tok.utf8;
-  reads = λ limit fits. separate_item false tok.shorter (ap is_closing tok.lexeme_is) (λ h. shorthand_there (read limit) free tok h) (λ h. absurd (false≢true h));
+  reads = λ limit fits. shorthand_reads limit free tok;
 }
 
 -- ---- a spread
 
-spread_there : {n : ℕ} {e : Term} {p : Bool} {a m b : Text} (limit : ℕ) → Seen (sign (codes "...")) a m → IsRead true (depth e) (whole e n p) m b → depth e ≤ limit → is_end (lexeme b) ≡ true → property_item (read limit) a ≡ Some (whole (of_part Kind.SpreadElement e) 0 p, b)
+pub spread_there : {f : Found} {a m b : Text} (limit : ℕ) → Seen (sign (codes "...")) a m → read limit (goal.Expression 2 true) m ≡ Some (f, b) → property_item (read limit) a ≡ Some (spread_of f, b)
 unfolding property_item spread
-spread_there limit tok r fits h = rw (tok.lexeme_is, tok.after_is, found_expression r limit fits h)
+spread_there limit tok h = rw (tok.lexeme_is, tok.after_is, h)
 
 pub spread_field : {n : ℕ} {e : Term} {a m b : Text} → Seen (sign (codes "...")) a m → StandsRead true n e m b → FoundItem property_of false (of_part Kind.SpreadElement e) a b
 spread_field {e = e} tok x = let r = x.read in record {
@@ -206,5 +210,5 @@ spread_field {e = e} tok x = let r = x.read in record {
   tree_is = refl;
   cover_is = refl;
   utf8 = x.utf8;
-  reads = λ limit fits. some_item false (let s1 = tok.shorter in let s2 = r.shorter in omega arith) (ap is_closing tok.lexeme_is) (λ h. spread_there limit tok r (omega arith) h) (λ h. absurd (false≢true h));
+  reads = λ limit fits. some_item false (let s1 = tok.shorter in let s2 = r.shorter in omega arith) (ap is_closing tok.lexeme_is) (λ h. spread_there limit tok (found_expression r limit (omega arith) h)) (λ h. absurd (false≢true h));
 }

@@ -45,9 +45,13 @@ deeper r h = record {
 
 -- ---- arrays and objects, whatever they may become
 
+pub array_there : (limit : ℕ) {fs : List Found} {comma : Bool} {b c d : Text} → ReadsGroup (element_of limit) fs comma b c → Seen (sign (codes "]")) c d → array (read limit) b ≡ Some (literal (array_of (all (trees fs))) fs comma, d)
+unfolding array
+array_there limit r tok' = rw (r.reads (codes "]") refl (sees_by (codes "]") tok'), expect_read tok')
+
 array_prefix : (i : Bool) (limit least : ℕ) {fs : List Found} {comma : Bool} {a b c d : Text} → Seen (sign (codes "[")) a b → ReadsGroup (element_of limit) fs comma b c → Seen (sign (codes "]")) c d → prefix (read limit) i least a ≡ Some (literal (array_of (all (trees fs))) fs comma, d)
-unfolding prefix array
-array_prefix i limit least tok r tok' = rw (tok.lexeme_is, tok.after_is, r.reads (codes "]") refl (sees_by (codes "]") tok'), expect_read tok')
+unfolding prefix
+array_prefix i limit least tok r tok' = rw (tok.lexeme_is, tok.after_is, array_there limit r tok')
 
 -- an array by what was found in it, and the number of levels that stand in it
 pub array_found : {i : Bool} {fs : List Found} {comma : Bool} {a b c d : Text} (n : ℕ) → Seen (sign (codes "[")) a b → ((limit : ℕ) → n ≤ limit → ReadsGroup (element_of limit) fs comma b c) → Seen (sign (codes "]")) c d → IsRead i (suc n) (literal (array_of (all (trees fs))) fs comma) a d
@@ -57,9 +61,13 @@ array_found {i} n tok r tok' =
 abbrev pub property_of : ℕ → Text → Reading Found
 property_of limit a = property_item (read limit) a
 
+pub object_there : (limit : ℕ) {fs : List Found} {comma : Bool} {b c d : Text} → ReadsGroup (property_of limit) fs comma b c → Seen (sign (codes "}")) c d → object (read limit) b ≡ Some (literal (object_of (all (trees fs))) fs comma, d)
+unfolding object
+object_there limit r tok' = rw (r.reads (codes "}") refl (sees_by (codes "}") tok'), expect_read tok')
+
 object_prefix : (i : Bool) (limit least : ℕ) {fs : List Found} {comma : Bool} {a b c d : Text} → Seen (sign (codes "{")) a b → ReadsGroup (property_of limit) fs comma b c → Seen (sign (codes "}")) c d → prefix (read limit) i least a ≡ Some (literal (object_of (all (trees fs))) fs comma, d)
-unfolding prefix object
-object_prefix i limit least tok r tok' = rw (tok.lexeme_is, tok.after_is, r.reads (codes "}") refl (sees_by (codes "}") tok'), expect_read tok')
+unfolding prefix
+object_prefix i limit least tok r tok' = rw (tok.lexeme_is, tok.after_is, object_there limit r tok')
 
 pub object_found : {i : Bool} {fs : List Found} {comma : Bool} {a b c d : Text} (n : ℕ) → Seen (sign (codes "{")) a b → ((limit : ℕ) → n ≤ limit → ReadsGroup (property_of limit) fs comma b c) → Seen (sign (codes "}")) c d → IsRead i (suc n) (literal (object_of (all (trees fs))) fs comma) a d
 object_found {i} n tok r tok' =

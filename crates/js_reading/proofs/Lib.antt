@@ -51,3 +51,8 @@ pub mod ExportsRead
 pub mod Jumping
 pub mod ItemsRead
 pub mod StatementsThere
+pub mod Becoming
+pub mod CoverItems
+pub mod CoverProperties
+pub mod PatternDepths
+pub mod PatternsRead

@@ -12,7 +12,7 @@ use Rattle.js_syntax.specs.Spelling.{is_several}
 use Rattle.js_tokens.specs.Next.{lexeme}
 use Rattle.js_reading.specs.declared.goal.Goal.TheVariants as goal
 use Rattle.js_reading.specs.Reading.{Found, closed, Reading, sees, joined, trees, any_cover}
-use Rattle.js_reading.specs.Parts.{part, expression, spread, item, argument, element}
+use Rattle.js_reading.specs.Parts.{part, expression, spread_of, spread, item, argument, element}
 use Rattle.js_reading.specs.Read.{read}
 use Rattle.js_reading.proofs.TokensThere.{Seen, sees_by}
 use Rattle.js_reading.proofs.Opens.{begins, no_sign_there}
@@ -166,12 +166,12 @@ unfolding argument
 item_there true limit f a whole h = rw (h, whole)
 item_there false limit f a whole h = h
 
-expression_item : (limit : ℕ) (f : Found) (a : Text) {b : Text} → begins (lexeme a) ≡ true → read limit (goal.Expression 2 true) a ≡ Some (f, b) → item (read limit) a ≡ Some (f, b)
+pub expression_item : (limit : ℕ) (f : Found) (a : Text) {b : Text} → begins (lexeme a) ≡ true → read limit (goal.Expression 2 true) a ≡ Some (f, b) → item (read limit) a ≡ Some (f, b)
 unfolding item
 expression_item limit f a starts h = rw (no_sign_there (codes "...") a starts refl, h)
 
-pub found_expression : {i : Bool} {d n : ℕ} {e : Term} {p : Bool} {a b : Text} → IsRead i d (whole e n p) a b → (limit : ℕ) → d ≤ limit → is_end (lexeme b) ≡ true → read limit (goal.Expression 2 i) a ≡ Some (whole e n p, b)
-found_expression {i} {e = e} {b = b} r limit fits h = let y = r.high in place_found r limit 2 1 (omega arith) (omega arith) (omega arith) (inl (omega arith)) fits (end_holds i (edge e) 1 b h)
+pub found_expression : {i : Bool} {d : ℕ} {f : Found} {a b : Text} → IsRead i d f a b → (limit : ℕ) → d ≤ limit → is_end (lexeme b) ≡ true → read limit (goal.Expression 2 i) a ≡ Some (f, b)
+found_expression {i} {f = f} {b = b} r limit fits h = let y = r.high in place_found r limit 2 1 (omega arith) (omega arith) (omega arith) (inl (omega arith)) fits (end_holds i (edge f.tree) 1 b h)
 
 stands_reads : (w : Bool) {n : ℕ} {e : Term} {p : Bool} {a b : Text} → IsRead true (depth e) (whole e n p) a b → begins (lexeme a) ≡ true → (limit : ℕ) → depth e ≤ limit → ReadsItem false false (item_of w limit) (whole e n p) a b
 stands_reads w {n} {e} {p} {a} r starts limit fits = some_item false r.shorter (begins_no_closer a starts) (λ h. item_there w limit (whole e n p) a refl (expression_item limit (whole e n p) a starts (found_expression r limit fits h))) (λ h. absurd (false≢true h))
@@ -179,14 +179,14 @@ stands_reads w {n} {e} {p} {a} r starts limit fits = some_item false r.shorter (
 pub stands_item : (w : Bool) {n : ℕ} {e : Term} {a b : Text} → StandsRead true n e a b → begins (lexeme a) ≡ true → FoundItem (item_of w) false e a b
 stands_item w {n} {e} x starts = record { found = whole e n x.barred; tree_is = refl; cover_is = refl; utf8 = x.utf8; reads = λ limit fits. stands_reads w x.read starts limit fits }
 
-spread_there : (limit : ℕ) (e : Term) (n : ℕ) (p : Bool) {a m b : Text} → Seen (sign (codes "...")) a m → read limit (goal.Expression 2 true) m ≡ Some (whole e n p, b) → item (read limit) a ≡ Some (whole (of_part Kind.SpreadElement e) 0 p, b)
+spread_there : (limit : ℕ) (f : Found) {a m b : Text} → Seen (sign (codes "...")) a m → read limit (goal.Expression 2 true) m ≡ Some (f, b) → item (read limit) a ≡ Some (spread_of f, b)
 unfolding item spread
-spread_there limit e n p tok h = rw (sees_by (codes "...") tok, tok.after_is, h)
+spread_there limit f tok h = rw (sees_by (codes "...") tok, tok.after_is, h)
 
-pub spread_reads : {n : ℕ} {e : Term} {p : Bool} {a m b : Text} → Seen (sign (codes "...")) a m → IsRead true (depth e) (whole e n p) m b → (limit : ℕ) → depth e ≤ limit → is_end (lexeme b) ≡ true → item (read limit) a ≡ Some (whole (of_part Kind.SpreadElement e) 0 p, b)
-spread_reads {n} {e} {p} tok r limit fits h = spread_there limit e n p tok (found_expression r limit fits h)
+pub spread_reads : {d : ℕ} {f : Found} {a m b : Text} → Seen (sign (codes "...")) a m → IsRead true d f m b → (limit : ℕ) → d ≤ limit → is_end (lexeme b) ≡ true → item (read limit) a ≡ Some (spread_of f, b)
+spread_reads {f = f} tok r limit fits h = spread_there limit f tok (found_expression r limit fits h)
 
-spread_closes : {a m : Text} → Seen (sign (codes "...")) a m → is_closing (lexeme a) ≡ false
+pub spread_closes : {a m : Text} → Seen (sign (codes "...")) a m → is_closing (lexeme a) ≡ false
 spread_closes tok = ap is_closing tok.lexeme_is
 
 pub spread_item : (w : Bool) {n : ℕ} {e : Term} {a m b : Text} → Seen (sign (codes "...")) a m → StandsRead true n e m b → FoundItem (item_of w) false (of_part Kind.SpreadElement e) a b
@@ -198,7 +198,7 @@ spread_item w {n} {e} {a} tok x = let r = x.read in record {
   reads = λ limit fits. some_item false (let s1 = tok.shorter in let s2 = r.shorter in omega arith) (spread_closes tok) (λ h. item_there w limit (whole (of_part Kind.SpreadElement e) 0 x.barred) a refl (spread_reads tok r limit (omega arith) h)) (λ h. absurd (false≢true h));
 }
 
-element_there : (limit : ℕ) (a : Text) {f : Found} {b : Text} → sees (codes ",") a ≡ false → item (read limit) a ≡ Some (f, b) → element (read limit) a ≡ Some (f, b)
+pub element_there : (limit : ℕ) (a : Text) {f : Found} {b : Text} → sees (codes ",") a ≡ false → item (read limit) a ≡ Some (f, b) → element (read limit) a ≡ Some (f, b)
 unfolding element
 element_there limit a h h' = rw (h, h')
 
@@ -224,8 +224,11 @@ hole_there : (limit : ℕ) (a : Text) → sees (codes ",") a ≡ true → elemen
 unfolding element
 hole_there limit a h = rw h
 
+pub hole_reads : (limit : ℕ) (a : Text) → ReadsItem true false (element_of limit) (closed absent 0) a a
+hole_reads limit a = hole_item (λ h. hole_there limit a h)
+
 pub hole_element : {a : Text} → IsUtf8 a → FoundItem element_of true absent a a
-hole_element {a} u = record { found = closed absent 0; tree_is = refl; cover_is = refl; utf8 = u; reads = λ limit fits. hole_item (λ h. hole_there limit a h) }
+hole_element {a} u = record { found = closed absent 0; tree_is = refl; cover_is = refl; utf8 = u; reads = λ limit fits. hole_reads limit a }
 
 -- ---- the elements of an array, of which some may be holes
 

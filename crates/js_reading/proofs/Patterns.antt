@@ -75,11 +75,11 @@ with_rest_is None p q h = absurd (cc)
 with_rest_is (Some ts) None q h = absurd (cc)
 with_rest_is (Some ts) (Some r) q h = let pair : ◌≡◌ {A = List Term × Term} (ts, r) q = cc in (ap (λ (x : List Term × Term). Some x.0) pair, ap (λ (x : List Term × Term). Some x.1) pair)
 
-default_as_is : (k : Kind) (o : Option Term) (e p : Term) → default_as k o e ≡ Some p → (t : Term) × (o ≡ Some t) × (of_parts k t e ≡ p)
+pub default_as_is : (k : Kind) (o : Option Term) (e p : Term) → default_as k o e ≡ Some p → (t : Term) × (o ≡ Some t) × (of_parts k t e ≡ p)
 default_as_is k None e p h = absurd (cc)
 default_as_is k (Some t) e p h = (t, refl, cc)
 
-rest_of_is : (o : Option Term) (q : Term) → rest_of o ≡ Some q → (p : Term) × (o ≡ Some p) × (of_part Kind.BindingRestElement p ≡ q)
+pub rest_of_is : (o : Option Term) (q : Term) → rest_of o ≡ Some q → (p : Term) × (o ≡ Some p) × (of_part Kind.BindingRestElement p ≡ q)
 rest_of_is None q h = absurd (cc)
 rest_of_is (Some p) q h = (p, refl, cc)
 
