@@ -55,23 +55,26 @@ valued_there : {n : ℕ} {e : Term} {p : Bool} {b c d : Text} (limit : ℕ) (k :
 unfolding behind_key valued
 valued_there limit k tok r fits h = rw (sees_by (codes ":") tok, tok.after_is, found_expression r limit fits h)
 
--- Behind this key a property goes on.
-pub record KeyItem (computed : Bool) (k : Term) (a b : Text) : Type 0 where
-  pub key_read : IsReadKey computed k a b
-  pub open' : is_closing (lexeme a) ≡ false
-  pub goes : (limit : ℕ) {c : Text} → depth k ≤ limit → Seen (sign (codes ":")) b c → property_item (read limit) a ≡ behind_key (read limit) (computed, k) b
-
-name_goes : (sub : Goal → Text → Reading Found) {x a b c : Text} → Seen (word x) a b → Seen (sign (codes ":")) b c → property_item sub a ≡ behind_key sub (false, name_of x) b
-name_goes sub {x} {b = b} tok colon = named_there sub tok ∙ plain_name sub x b (seen_key colon) (sees_by (codes "*") colon) ∙ rw (sees_by (codes ":") colon)
-
-pub name_item : {x a b : Text} → Seen (word x) a b → KeyItem false (name_of x) a b
-name_item tok = record { key_read = name_key_read tok; open' = ap is_closing tok.lexeme_is; goes = λ limit fits colon. name_goes (read limit) tok colon }
-
 -- whether the token begins a property by its key alone
 abbrev pub begins_by_key : Option Lexeme → Bool
 begins_by_key (Some (word x)) = false
 begins_by_key (Some (sign s)) = is_text s (codes "[")
 begins_by_key o = true
+
+-- A key begins by a name, or by a token that is no mark.
+pub data KeyOpens : Bool → Term → Text → Text → Type 0 where
+  by_word : {x a b : Text} → Seen (word x) a b → KeyOpens false (name_of x) a b
+  by_token : {computed : Bool} {k : Term} {a b : Text} → begins_by_key (lexeme a) ≡ true → KeyOpens computed k a b
+
+pub record KeyItem (computed : Bool) (k : Term) (a b : Text) : Type 0 where
+  pub key_read : IsReadKey computed k a b
+  pub opens : KeyOpens computed k a b
+
+name_goes : (sub : Goal → Text → Reading Found) {x a b : Text} → Seen (word x) a b → begins_key_at b ≡ false → sees (codes "*") b ≡ false → sees (codes ":") b || sees (codes "(") b ≡ true → property_item sub a ≡ behind_key sub (false, name_of x) b
+name_goes sub {x} {b = b} tok h h' is = named_there sub tok ∙ plain_name sub x b h h' ∙ rw is
+
+pub name_item : {x a b : Text} → Seen (word x) a b → KeyItem false (name_of x) a b
+name_item tok = record { key_read = name_key_read tok; opens = by_word tok }
 
 key_goes : (sub : Goal → Text → Reading Found) (o : Option Lexeme) (a : Text) → begins_by_key o ≡ true → property_by sub o a ≡ (key sub a >>= behind_key sub)
 key_goes sub (Some (word x)) a h = absurd (false≢true h)
@@ -116,8 +119,23 @@ other_goes : {computed : Bool} {k : Term} {a b : Text} (limit : ℕ) → IsReadK
 unfolding property_item
 other_goes {a = a} limit x h fits = key_goes (read limit) (lexeme a) a h ∙ ap (λ r. r >>= behind_key (read limit)) (x.reads limit fits)
 
-pub other_item : {computed : Bool} {k : Term} {a b : Text} → IsReadKey computed k a b → begins_by_key (lexeme a) ≡ true → KeyItem computed k a b
-other_item {a = a} x h = record { key_read = x; open' = key_open (lexeme a) h; goes = λ limit fits colon. other_goes limit x h fits }
+opens_open : {computed : Bool} {k : Term} {a b : Text} → KeyOpens computed k a b → is_closing (lexeme a) ≡ false
+opens_open (by_word tok) = ap is_closing tok.lexeme_is
+opens_open {a = a} (by_token h) = key_open (lexeme a) h
+
+pub item_open : {computed : Bool} {k : Term} {a b : Text} → KeyItem computed k a b → is_closing (lexeme a) ≡ false
+item_open x = opens_open x.opens
+
+opens_goes : {computed : Bool} {k : Term} {a b : Text} → KeyOpens computed k a b → IsReadKey computed k a b → (limit : ℕ) → depth k ≤ limit → begins_key_at b ≡ false → sees (codes "*") b ≡ false → sees (codes ":") b || sees (codes "(") b ≡ true → property_item (read limit) a ≡ behind_key (read limit) (computed, k) b
+opens_goes (by_word tok) x limit fits h h' is = name_goes (read limit) tok h h' is
+opens_goes (by_token opens) x limit fits h h' is = other_goes limit x opens fits
+
+-- behind a key a property goes on by `:` or `(`
+pub item_goes : {computed : Bool} {k : Term} {a b : Text} → KeyItem computed k a b → (limit : ℕ) → depth k ≤ limit → begins_key_at b ≡ false → sees (codes "*") b ≡ false → sees (codes ":") b || sees (codes "(") b ≡ true → property_item (read limit) a ≡ behind_key (read limit) (computed, k) b
+item_goes x limit fits h h' is = opens_goes x.opens x.key_read limit fits h h' is
+
+other_item : {computed : Bool} {k : Term} {a b : Text} → IsReadKey computed k a b → begins_by_key (lexeme a) ≡ true → KeyItem computed k a b
+other_item x h = record { key_read = x; opens = by_token h }
 
 pub string_item : {raw v a b : Text} → Seen (string raw v) a b → KeyItem false (string_of v) a b
 string_item tok = other_item (string_key_read tok) (ap begins_by_key tok.lexeme_is)
@@ -137,14 +155,17 @@ item_key x = x.key_read
 pub item_utf8 : {computed : Bool} {k : Term} {a b : Text} → KeyItem computed k a b → IsUtf8 b
 item_utf8 x = let r = x.key_read in r.utf8
 
+colon_goes : {b c : Text} → Seen (sign (codes ":")) b c → sees (codes ":") b || sees (codes "(") b ≡ true
+colon_goes tok = rw (sees_by (codes ":") tok)
+
 pub property_field : {n : ℕ} {computed : Bool} {k e : Term} {a b c d : Text} → KeyItem computed k a b → Seen (sign (codes ":")) b c → StandsRead true n e c d → FoundItem property_of false (property (codes "init") false false computed k e) a d
 property_field {n} {computed} {k} {e} x tok y = let r = y.read in let kr = x.key_read in record {
   found = whole (property (codes "init") false false computed k e) 0 y.barred;
   tree_is = refl;
   cover_is = refl;
   utf8 = y.utf8;
-  reads = λ limit fits. some_item false (let s1 = kr.shorter in let s2 = tok.shorter in let s3 = r.shorter in omega arith) x.open'
-      (λ h. x.goes limit (omega arith) tok ∙ valued_there limit (computed, k) tok r (omega arith) h) (λ h. absurd (false≢true h));
+  reads = λ limit fits. some_item false (let s1 = kr.shorter in let s2 = tok.shorter in let s3 = r.shorter in omega arith) (item_open x)
+      (λ h. item_goes x limit (omega arith) (seen_key tok) (sees_by (codes "*") tok) (colon_goes tok) ∙ valued_there limit (computed, k) tok r (omega arith) h) (λ h. absurd (false≢true h));
 }
 
 -- ---- a name alone
