@@ -67,9 +67,12 @@ pub record IsReadInitializer (i : Bool) (e : Term) (a b : Text) : Type 0 where
   pub short : length b ≤ length a
   pub reads : (limit : ℕ) → depth e ≤ limit → holds i (edge e) 1 b ≡ true → sees (codes "=") b ≡ false → initializer (read limit) i a ≡ Some (e, b)
 
-pub no_initializer_read : {i : Bool} {a : Text} → IsUtf8 a → IsReadInitializer i absent a a
+pub no_initializer_there : (sub : Goal → Text → Reading Found) (i : Bool) {a : Text} → sees (codes "=") a ≡ false → initializer sub i a ≡ Some (absent, a)
 unfolding initializer
-no_initializer_read u = record { utf8 = u; short = omega arith; reads = λ limit fits h h'. rw h' }
+no_initializer_there sub i h = rw h
+
+pub no_initializer_read : {i : Bool} {a : Text} → IsUtf8 a → IsReadInitializer i absent a a
+no_initializer_read {i} u = record { utf8 = u; short = omega arith; reads = λ limit fits h h'. no_initializer_there (read limit) i h' }
 
 pub initializer_read : {i : Bool} {n : ℕ} {e : Term} {a b c : Text} → Seen (sign (codes "=")) a b → StandsRead i n e b c → IsReadInitializer i e a c
 unfolding initializer

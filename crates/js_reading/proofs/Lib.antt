@@ -52,3 +52,5 @@ pub mod Jumping
 pub mod ItemsRead
 pub mod StatementsThere
 pub mod FunctionTexts
+pub mod Methods
+pub mod ClassElements
