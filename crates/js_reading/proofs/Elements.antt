@@ -1,4 +1,4 @@
--- Methods of classes that stand in a text behind a mark are read.
+-- Elements of classes that stand in a text behind `static`, `async`, `*`, `get` or `set` are read.
 use Rattle.std.proofs.Common.{◌≡◌, ◌≤◌, ◌<◌, ℕ, suc, Bool, true, false, ◌&&◌, ◌||◌, [], length, Some, refl, ◌∙◌, ap, arith, codes}
 use Rattle.std.proofs.lemmas.Bool.{and_left, or_left}
 use Rattle.std.specs.Str.{IsUtf8}

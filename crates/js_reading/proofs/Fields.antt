@@ -1,7 +1,7 @@
--- Properties of an object that stand in a text are read: values, names alone, and spreads.
-use Rattle.std.proofs.Common.{◌≡◌, ◌≤◌, ℕ, Bool, true, false, not, ◌&&◌, ◌||◌, if◌then◌else◌, [], ◌∷◌, Option, Some, None, refl, sym, ◌∙◌, ap, arith, codes}
+-- Keys, and properties of an object that are no methods, that stand in a text are read.
+use Rattle.std.proofs.Common.{◌≡◌, ◌≤◌, ℕ, Bool, true, false, not, ◌||◌, if◌then◌else◌, [], ◌∷◌, Option, Some, None, refl, ◌∙◌, ap, arith, codes}
 use Rattle.std.specs.Str.{IsUtf8}
-use Rattle.std.proofs.lemmas.Bool.{false≢true, not-true}
+use Rattle.std.proofs.lemmas.Bool.{false≢true, not-true, and_right, or_left, or_from}
 use Rattle.js_term.specs.Term.{Text, is_text, Term, depth}
 use Rattle.js_term.specs.declared.kind.Kind.{Kind}
 use Rattle.js_term.specs.Lexeme.{is_reserved, is_one_of}
@@ -11,12 +11,13 @@ use Rattle.js_syntax.specs.Tokens.{Lexeme, word, private_name, number, big_integ
 use Rattle.js_syntax.proofs.Fronts.{among}
 use Rattle.js_tokens.specs.Next.{lexeme}
 use Rattle.js_reading.specs.declared.goal.Goal.{Goal}
-use Rattle.js_reading.specs.Reading.{Found, Reading, ◌>>=◌, is_sign, sees, same_line, begins_key_by, begins_key_at}
+use Rattle.js_reading.specs.Reading.{Found, Reading, ◌>>=◌, sees, same_line, begins_key_by, begins_key_at}
 use Rattle.js_reading.specs.Parts.{Key, key, spread}
 use Rattle.js_reading.specs.Literals.{modifies_method, is_accessor, pair_found, shorthand_found, valued, behind_key, shorthand, named_property, property_by, property_item}
 use Rattle.js_reading.specs.Read.{read}
 use Rattle.js_reading.proofs.TokensThere.{Seen, sees_by}
-use Rattle.js_reading.proofs.Lists.{seen_sign, is_closing, is_end, separates, is_separating, some_item, separate_item}
+use Rattle.js_reading.proofs.Each.{no_sign_by}
+use Rattle.js_reading.proofs.Lists.{is_closing, is_end, separates, some_item, separate_item}
 use Rattle.js_reading.proofs.Climbs.{whole, IsRead}
 use Rattle.js_reading.proofs.Listings.{StandsRead, FoundItem, found_expression}
 use Rattle.js_reading.proofs.Grouped.{property_of}
@@ -26,20 +27,12 @@ use Rattle.js_reading.proofs.Templating.{IsReadKey, name_key_read, string_key_re
 
 no_modifier : (b : Text) → begins_key_at b ≡ false → sees (codes "*") b ≡ false → modifies_method b ≡ false
 unfolding modifies_method
-no_modifier b h h' = rw (h, h') (go (same_line b))
-  where
-    go : (line : Bool) → (line && false) ≡ false
-    go true = refl
-    go false = refl
-
-and_no : (p q : Bool) → q ≡ false → (p && q) ≡ false
-and_no true q h = h
-and_no false q h = refl
+no_modifier b h h' = and_right (same_line b) _ (or_from (begins_key_at b) _ h h')
 
 -- behind a name no key and no star: it is the name of a property
 plain_name : (sub : Goal → Text → Reading Found) (x b : Text) → begins_key_at b ≡ false → sees (codes "*") b ≡ false → named_property sub x b ≡ (if sees (codes ":") b || sees (codes "(") b then behind_key sub (false, name_of x) b else shorthand sub x b)
 unfolding named_property
-plain_name sub x b h h' = rw (and_no (is_text x (codes "async")) (modifies_method b) (no_modifier b h h'), and_no (is_accessor x) (begins_key_at b) h)
+plain_name sub x b h h' = rw (and_right (is_text x (codes "async")) (modifies_method b) (no_modifier b h h'), and_right (is_accessor x) (begins_key_at b) h)
 
 named_there : (sub : Goal → Text → Reading Found) {x a b : Text} → Seen (word x) a b → property_item sub a ≡ named_property sub x b
 unfolding property_item
@@ -79,13 +72,9 @@ name_item tok = record { key_read = name_key_read tok; opens = by_word tok }
 key_goes : (sub : Goal → Text → Reading Found) (o : Option Lexeme) (a : Text) → begins_by_key o ≡ true → property_by sub o a ≡ (key sub a >>= behind_key sub)
 key_goes sub (Some (word x)) a h = absurd (false≢true h)
 key_goes sub (Some (sign s)) a h = rw (
-  not-true (is_text s (codes "...")) (among (λ t. not (is_text t (codes "..."))) (codes "[" ∷ []) s refl (or_false (is_text s (codes "[")) h)),
-  not-true (is_text s (codes "*")) (among (λ t. not (is_text t (codes "*"))) (codes "[" ∷ []) s refl (or_false (is_text s (codes "[")) h)),
+  not-true (is_text s (codes "...")) (among (λ t. not (is_text t (codes "..."))) (codes "[" ∷ []) s refl (or_left (is_text s (codes "[")) false h)),
+  not-true (is_text s (codes "*")) (among (λ t. not (is_text t (codes "*"))) (codes "[" ∷ []) s refl (or_left (is_text s (codes "[")) false h)),
 )
-  where
-    or_false : (b : Bool) → b ≡ true → (b || false) ≡ true
-    or_false true h = refl
-    or_false false h = absurd (false≢true h)
 key_goes sub None a h = refl
 key_goes sub (Some (private_name x)) a h = refl
 key_goes sub (Some (number x)) a h = refl
@@ -99,11 +88,7 @@ key_goes sub (Some (template_tail x)) a h = refl
 
 key_open : (o : Option Lexeme) → begins_by_key o ≡ true → is_closing o ≡ false
 key_open (Some (word x)) h = absurd (false≢true h)
-key_open (Some (sign s)) h = not-true (is_one_of s (codes ")" ∷ codes "]" ∷ codes "}" ∷ [])) (among (λ t. not (is_one_of t (codes ")" ∷ codes "]" ∷ codes "}" ∷ []))) (codes "[" ∷ []) s refl (or_false (is_text s (codes "[")) h))
-  where
-    or_false : (b : Bool) → b ≡ true → (b || false) ≡ true
-    or_false true h = refl
-    or_false false h = absurd (false≢true h)
+key_open (Some (sign s)) h = not-true (is_one_of s (codes ")" ∷ codes "]" ∷ codes "}" ∷ [])) (among (λ t. not (is_one_of t (codes ")" ∷ codes "]" ∷ codes "}" ∷ []))) (codes "[" ∷ []) s refl (or_left (is_text s (codes "[")) false h))
 key_open None h = refl
 key_open (Some (private_name x)) h = refl
 key_open (Some (number x)) h = refl
@@ -184,27 +169,16 @@ separate_key (Some (template_head x)) h = absurd (false≢true h)
 separate_key (Some (template_middle x)) h = absurd (false≢true h)
 separate_key (Some (template_tail x)) h = absurd (false≢true h)
 
-separate_sign : (s : Text) (o : Option Lexeme) → separates o ≡ true → is_separating s ≡ false → is_sign s o ≡ false
-separate_sign s o h h' = go (is_sign s o) refl
-  where
-    go : (t : Bool) → is_sign s o ≡ t → is_sign s o ≡ false
-    go false e = e
-    go true e = absurd (false≢true (sym h' ∙ ap separates (sym (seen_sign s o e)) ∙ h))
-
 begins_none : (b : Text) → separates (lexeme b) ≡ true → begins_key_at b ≡ false
 unfolding begins_key_at
 begins_none b h = separate_key (lexeme b) h
 
-sees_none : (s b : Text) → separates (lexeme b) ≡ true → is_separating s ≡ false → sees s b ≡ false
-unfolding sees
-sees_none s b h h' = separate_sign s (lexeme b) h h'
-
 alone_there : (sub : Goal → Text → Reading Found) {x : Text} (b : Text) → is_reserved x ≡ false → separates (lexeme b) ≡ true → shorthand sub x b ≡ Some (shorthand_found x, b)
 unfolding shorthand
-alone_there sub b free h = rw (free, sees_none (codes "=") b h refl)
+alone_there sub b free h = rw (free, no_sign_by separates (codes "=") b h refl)
 
 shorthand_there : (sub : Goal → Text → Reading Found) {x a b : Text} → is_reserved x ≡ false → Seen (word x) a b → separates (lexeme b) ≡ true → property_item sub a ≡ Some (shorthand_found x, b)
-shorthand_there sub {x} {a} {b} free tok h = named_there sub tok ∙ plain_name sub x b (begins_none b h) (sees_none (codes "*") b h refl) ∙ rw (sees_none (codes ":") b h refl, sees_none (codes "(") b h refl) (alone_there sub b free h)
+shorthand_there sub {x} {a} {b} free tok h = named_there sub tok ∙ plain_name sub x b (begins_none b h) (no_sign_by separates (codes "*") b h refl) ∙ rw (no_sign_by separates (codes ":") b h refl, no_sign_by separates (codes "(") b h refl) (alone_there sub b free h)
 
 pub shorthand_field : {x a b : Text} → is_reserved x ≡ false → Seen (word x) a b → FoundItem property_of false (property (codes "init") false true false (name_of x) (identifier_of x)) a b
 shorthand_field {x} free tok = record {
