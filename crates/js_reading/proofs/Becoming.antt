@@ -168,6 +168,9 @@ module _ {g : Gathering} {t : Turning} {at : ℕ → Text → Reading Found} whe
   pub and_listed : {hole : Bool} {p : Term} {ps : List Term} {a b c d : Text} → ItemCover g t at hole p a b → Seen (sign (codes ",")) b c → ListedCover g t at ps c d → ListedCover g t at (p ∷ ps) a d
   and_listed x tok l = record { hole = l.hole; no_hole = λ h. l.no_hole (sym (l.skip _) ∙ h); skip = λ e. refl; alone = and_cover x tok l.alone; before = λ r c d tok' y. and_cover x tok (l.before r c d tok' y) }
 
+  pub listed_utf8 : {ps : List Term} {a b : Text} → ListedCover g t at ps a b → IsUtf8 b
+  listed_utf8 l = let x = l.alone in x.utf8
+
   pub listed_group : {ps : List Term} {a b : Text} → last_absent ps ≡ false → ListedCover g t at ps a b → GroupCover g t at ps absent a b
   listed_group h l = plain_cover (l.no_hole h) l.alone
 

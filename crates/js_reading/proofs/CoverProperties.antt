@@ -25,7 +25,7 @@ use Rattle.js_reading.proofs.Climbs.{whole, right_read}
 use Rattle.js_reading.proofs.Leaves.{identifier_read}
 use Rattle.js_reading.proofs.Listings.{StandsRead, stands, found_expression, spread_closes}
 use Rattle.js_reading.proofs.Grouped.{property_of}
-use Rattle.js_reading.proofs.Fields.{KeyItem, valued_there, named_there, plain_name, seen_key, shorthand_reads, spread_there}
+use Rattle.js_reading.proofs.Fields.{KeyItem, item_open, item_goes, colon_goes, valued_there, named_there, plain_name, seen_key, shorthand_reads, spread_there}
 use Rattle.js_reading.proofs.Becoming.{Gathering, Turning, ItemCover, RestCover}
 use Rattle.js_reading.proofs.CoverItems.{properties, as_targets, as_properties, DefaultCover}
 
@@ -43,8 +43,8 @@ pair_cover {computed = computed} {k = k} key tok x turns = let kr = key.key_read
   becomes = pair_becomes computed k x.found x.target x.becomes;
   turns = turns;
   utf8 = x.utf8;
-  reads = λ limit fits. some_item false (let s1 = kr.shorter in let s2 = tok.shorter in let s3 = x.shorter in omega arith) key.open'
-      (λ h. key.goes limit (omega arith) tok ∙ valued_there limit (computed, k) tok (x.reads limit (omega arith) h)) (λ h. absurd (false≢true h));
+  reads = λ limit fits. some_item false (let s1 = kr.shorter in let s2 = tok.shorter in let s3 = x.shorter in omega arith) (item_open key)
+      (λ h. item_goes key limit (omega arith) (seen_key tok) (sees_by (codes "*") tok) (colon_goes tok) ∙ valued_there limit (computed, k) tok (x.reads limit (omega arith) h)) (λ h. absurd (false≢true h));
 }
 
 -- the texts of such a property

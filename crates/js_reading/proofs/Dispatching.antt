@@ -10,11 +10,11 @@ use Rattle.js_syntax.specs.Parts.{is_node}
 use Rattle.js_syntax.specs.Texts.{assignment_operators}
 use Rattle.js_syntax.specs.Tokens.{word, private_name, sign}
 use Rattle.js_syntax.specs.Edges.{full, edge, is_unary, is_update, is_simple_target, is_private_member, is_coalesce_left, member_level, binary_level}
-use Rattle.js_syntax.specs.Spelling.{Stands, BareNew}
+use Rattle.js_syntax.specs.Spelling.{Stands, BareNew, Target}
 use Rattle.js_tokens.specs.Next.{lexeme}
 use Rattle.js_reading.specs.Reading.{same_line}
 use Rattle.js_reading.proofs.TokensThere.{Seen}
-use Rattle.js_reading.proofs.Opens.{begins, stands_opens, bare_new_opens}
+use Rattle.js_reading.proofs.Opens.{begins, stands_opens, target_opens, bare_new_opens}
 use Rattle.js_reading.proofs.Operations.{SeenOperator, exponentiation_read, conjunction_read, disjunction_read, coalescing_read, binary_read, conditional_read}
 use Rattle.js_reading.proofs.Prefixes.{unary_read, await_read, update_before_read, update_behind_read, private_in_read, bare_yield_read, yielding_read, delegating_read}
 use Rattle.js_reading.proofs.Listings.{StandsRead, stands, FoundGroup, item_of}
@@ -153,3 +153,6 @@ no_spread s = let x = stands_shape s in x.no_spread
 
 pub bare_starts : {i : Bool} {e : Term} {a b : Text} → BareNew i e a b → IsUtf8 a → begins (lexeme a) ≡ true
 bare_starts s u = let x = bare_new_opens s u in x.starts
+
+pub target_starts : {i : Bool} {t : Term} {a b : Text} → Target i t a b → IsUtf8 a → begins (lexeme a) ≡ true
+target_starts t u = let x = target_opens t u in x.starts

@@ -1,7 +1,7 @@
 -- What each answer of a reading meets.
-use Rattle.std.proofs.Common.{◌≡◌, Bool, true, false, not, ◌||◌, if◌then◌else◌, [], ◌∷◌, Option, Some, None, refl, subst, ap, codes}
+use Rattle.std.proofs.Common.{◌≡◌, Bool, true, false, not, ◌||◌, if◌then◌else◌, [], ◌∷◌, Option, Some, None, refl, sym, subst, ◌∙◌, ap, codes}
 use Rattle.std.specs.Str.{IsUtf8}
-use Rattle.std.proofs.lemmas.Bool.{and_parts}
+use Rattle.std.proofs.lemmas.Bool.{false≢true, and_parts}
 use Rattle.js_term.specs.Term.{Text}
 use Rattle.js_term.specs.Lexeme.{is_reserved}
 use Rattle.js_syntax.specs.Tokens.{Lexeme, word, private_name, number, big_integer, string, no_substitution, template_head, sign, regexp, template_middle, template_tail, Front, Token, Word, Sign, SameLine, AtEnd}
@@ -106,6 +106,23 @@ word_is x (Some (no_substitution y)) e = absurd (cc)
 word_is x (Some (template_head y)) e = absurd (cc)
 word_is x (Some (template_middle y)) e = absurd (cc)
 word_is x (Some (template_tail y)) e = absurd (cc)
+
+-- what is said of the token at the front, and not of this one
+pub no_sign_by : (p : Option Lexeme → Bool) (s a : Text) → p (lexeme a) ≡ true → p (Some (sign s)) ≡ false → sees s a ≡ false
+unfolding sees
+no_sign_by p s a h other = go (is_sign s (lexeme a)) refl
+  where
+    go : (b : Bool) → is_sign s (lexeme a) ≡ b → is_sign s (lexeme a) ≡ false
+    go false e = e
+    go true e = absurd (false≢true (sym other ∙ sym (ap p (sign_is s (lexeme a) e)) ∙ h))
+
+pub no_word_by : (p : Option Lexeme → Bool) (x a : Text) → p (lexeme a) ≡ true → p (Some (word x)) ≡ false → sees_word x a ≡ false
+unfolding sees_word
+no_word_by p x a h other = go (is_word x (lexeme a)) refl
+  where
+    go : (b : Bool) → is_word x (lexeme a) ≡ b → is_word x (lexeme a) ≡ false
+    go false e = e
+    go true e = absurd (false≢true (sym other ∙ sym (ap p (word_is x (lexeme a) e)) ∙ h))
 
 pub seen : (s a : Text) → IsUtf8 a → sees s a ≡ true → There a (sign s)
 unfolding sees

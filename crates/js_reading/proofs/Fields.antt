@@ -1,7 +1,7 @@
--- Properties of an object that stand in a text are read: values, names alone, and spreads.
-use Rattle.std.proofs.Common.{◌≡◌, ◌≤◌, ℕ, Bool, true, false, not, ◌&&◌, ◌||◌, if◌then◌else◌, [], ◌∷◌, Option, Some, None, refl, sym, ◌∙◌, ap, arith, codes}
+-- Keys, and properties of an object that are no methods, that stand in a text are read.
+use Rattle.std.proofs.Common.{◌≡◌, ◌≤◌, ℕ, Bool, true, false, not, ◌||◌, if◌then◌else◌, [], ◌∷◌, Option, Some, None, refl, ◌∙◌, ap, arith, codes}
 use Rattle.std.specs.Str.{IsUtf8}
-use Rattle.std.proofs.lemmas.Bool.{false≢true, not-true}
+use Rattle.std.proofs.lemmas.Bool.{false≢true, not-true, and_right, or_left, or_from}
 use Rattle.js_term.specs.Term.{Text, is_text, Term, depth}
 use Rattle.js_term.specs.declared.kind.Kind.{Kind}
 use Rattle.js_term.specs.Lexeme.{is_reserved, is_one_of}
@@ -12,12 +12,13 @@ use Rattle.js_syntax.proofs.Fronts.{among}
 use Rattle.js_tokens.specs.Next.{lexeme}
 use Rattle.js_reading.specs.declared.goal.Goal.{Goal}
 use Rattle.js_reading.specs.declared.goal.Goal.TheVariants as goal
-use Rattle.js_reading.specs.Reading.{Found, Reading, ◌>>=◌, is_sign, sees, same_line, begins_key_by, begins_key_at}
+use Rattle.js_reading.specs.Reading.{Found, Reading, ◌>>=◌, sees, same_line, begins_key_by, begins_key_at}
 use Rattle.js_reading.specs.Parts.{Key, key, spread_of, spread}
 use Rattle.js_reading.specs.Literals.{modifies_method, is_accessor, pair_found, shorthand_found, valued, behind_key, shorthand, named_property, property_by, property_item}
 use Rattle.js_reading.specs.Read.{read}
 use Rattle.js_reading.proofs.TokensThere.{Seen, sees_by}
-use Rattle.js_reading.proofs.Lists.{seen_sign, is_closing, is_end, separates, is_separating, ReadsItem, some_item, separate_item}
+use Rattle.js_reading.proofs.Each.{no_sign_by}
+use Rattle.js_reading.proofs.Lists.{is_closing, is_end, separates, ReadsItem, some_item, separate_item}
 use Rattle.js_reading.proofs.Climbs.{whole, IsRead}
 use Rattle.js_reading.proofs.Listings.{StandsRead, FoundItem, found_expression}
 use Rattle.js_reading.proofs.Grouped.{property_of}
@@ -27,20 +28,12 @@ use Rattle.js_reading.proofs.Templating.{IsReadKey, name_key_read, string_key_re
 
 no_modifier : (b : Text) → begins_key_at b ≡ false → sees (codes "*") b ≡ false → modifies_method b ≡ false
 unfolding modifies_method
-no_modifier b h h' = rw (h, h') (go (same_line b))
-  where
-    go : (line : Bool) → (line && false) ≡ false
-    go true = refl
-    go false = refl
-
-and_no : (p q : Bool) → q ≡ false → (p && q) ≡ false
-and_no true q h = h
-and_no false q h = refl
+no_modifier b h h' = and_right (same_line b) _ (or_from (begins_key_at b) _ h h')
 
 -- behind a name no key and no star: it is the name of a property
 pub plain_name : (sub : Goal → Text → Reading Found) (x b : Text) → begins_key_at b ≡ false → sees (codes "*") b ≡ false → named_property sub x b ≡ (if sees (codes ":") b || sees (codes "(") b then behind_key sub (false, name_of x) b else shorthand sub x b)
 unfolding named_property
-plain_name sub x b h h' = rw (and_no (is_text x (codes "async")) (modifies_method b) (no_modifier b h h'), and_no (is_accessor x) (begins_key_at b) h)
+plain_name sub x b h h' = rw (and_right (is_text x (codes "async")) (modifies_method b) (no_modifier b h h'), and_right (is_accessor x) (begins_key_at b) h)
 
 pub named_there : (sub : Goal → Text → Reading Found) {x a b : Text} → Seen (word x) a b → property_item sub a ≡ named_property sub x b
 unfolding property_item
@@ -56,34 +49,33 @@ pub valued_there : {f : Found} {b c d : Text} (limit : ℕ) (k : Key) → Seen (
 unfolding behind_key valued
 valued_there limit k tok h = rw (sees_by (codes ":") tok, tok.after_is, h)
 
--- Behind this key a property goes on.
-pub record KeyItem (computed : Bool) (k : Term) (a b : Text) : Type 0 where
-  pub key_read : IsReadKey computed k a b
-  pub open' : is_closing (lexeme a) ≡ false
-  pub goes : (limit : ℕ) {c : Text} → depth k ≤ limit → Seen (sign (codes ":")) b c → property_item (read limit) a ≡ behind_key (read limit) (computed, k) b
-
-name_goes : (sub : Goal → Text → Reading Found) {x a b c : Text} → Seen (word x) a b → Seen (sign (codes ":")) b c → property_item sub a ≡ behind_key sub (false, name_of x) b
-name_goes sub {x} {b = b} tok colon = named_there sub tok ∙ plain_name sub x b (seen_key colon) (sees_by (codes "*") colon) ∙ rw (sees_by (codes ":") colon)
-
-pub name_item : {x a b : Text} → Seen (word x) a b → KeyItem false (name_of x) a b
-name_item tok = record { key_read = name_key_read tok; open' = ap is_closing tok.lexeme_is; goes = λ limit fits colon. name_goes (read limit) tok colon }
-
 -- whether the token begins a property by its key alone
 abbrev pub begins_by_key : Option Lexeme → Bool
 begins_by_key (Some (word x)) = false
 begins_by_key (Some (sign s)) = is_text s (codes "[")
 begins_by_key o = true
 
+-- A key begins by a name, or by a token that is no mark.
+pub data KeyOpens : Bool → Term → Text → Text → Type 0 where
+  by_word : {x a b : Text} → Seen (word x) a b → KeyOpens false (name_of x) a b
+  by_token : {computed : Bool} {k : Term} {a b : Text} → begins_by_key (lexeme a) ≡ true → KeyOpens computed k a b
+
+pub record KeyItem (computed : Bool) (k : Term) (a b : Text) : Type 0 where
+  pub key_read : IsReadKey computed k a b
+  pub opens : KeyOpens computed k a b
+
+name_goes : (sub : Goal → Text → Reading Found) {x a b : Text} → Seen (word x) a b → begins_key_at b ≡ false → sees (codes "*") b ≡ false → sees (codes ":") b || sees (codes "(") b ≡ true → property_item sub a ≡ behind_key sub (false, name_of x) b
+name_goes sub {x} {b = b} tok h h' is = named_there sub tok ∙ plain_name sub x b h h' ∙ rw is
+
+pub name_item : {x a b : Text} → Seen (word x) a b → KeyItem false (name_of x) a b
+name_item tok = record { key_read = name_key_read tok; opens = by_word tok }
+
 key_goes : (sub : Goal → Text → Reading Found) (o : Option Lexeme) (a : Text) → begins_by_key o ≡ true → property_by sub o a ≡ (key sub a >>= behind_key sub)
 key_goes sub (Some (word x)) a h = absurd (false≢true h)
 key_goes sub (Some (sign s)) a h = rw (
-  not-true (is_text s (codes "...")) (among (λ t. not (is_text t (codes "..."))) (codes "[" ∷ []) s refl (or_false (is_text s (codes "[")) h)),
-  not-true (is_text s (codes "*")) (among (λ t. not (is_text t (codes "*"))) (codes "[" ∷ []) s refl (or_false (is_text s (codes "[")) h)),
+  not-true (is_text s (codes "...")) (among (λ t. not (is_text t (codes "..."))) (codes "[" ∷ []) s refl (or_left (is_text s (codes "[")) false h)),
+  not-true (is_text s (codes "*")) (among (λ t. not (is_text t (codes "*"))) (codes "[" ∷ []) s refl (or_left (is_text s (codes "[")) false h)),
 )
-  where
-    or_false : (b : Bool) → b ≡ true → (b || false) ≡ true
-    or_false true h = refl
-    or_false false h = absurd (false≢true h)
 key_goes sub None a h = refl
 key_goes sub (Some (private_name x)) a h = refl
 key_goes sub (Some (number x)) a h = refl
@@ -97,11 +89,7 @@ key_goes sub (Some (template_tail x)) a h = refl
 
 key_open : (o : Option Lexeme) → begins_by_key o ≡ true → is_closing o ≡ false
 key_open (Some (word x)) h = absurd (false≢true h)
-key_open (Some (sign s)) h = not-true (is_one_of s (codes ")" ∷ codes "]" ∷ codes "}" ∷ [])) (among (λ t. not (is_one_of t (codes ")" ∷ codes "]" ∷ codes "}" ∷ []))) (codes "[" ∷ []) s refl (or_false (is_text s (codes "[")) h))
-  where
-    or_false : (b : Bool) → b ≡ true → (b || false) ≡ true
-    or_false true h = refl
-    or_false false h = absurd (false≢true h)
+key_open (Some (sign s)) h = not-true (is_one_of s (codes ")" ∷ codes "]" ∷ codes "}" ∷ [])) (among (λ t. not (is_one_of t (codes ")" ∷ codes "]" ∷ codes "}" ∷ []))) (codes "[" ∷ []) s refl (or_left (is_text s (codes "[")) false h))
 key_open None h = refl
 key_open (Some (private_name x)) h = refl
 key_open (Some (number x)) h = refl
@@ -117,8 +105,23 @@ other_goes : {computed : Bool} {k : Term} {a b : Text} (limit : ℕ) → IsReadK
 unfolding property_item
 other_goes {a = a} limit x h fits = key_goes (read limit) (lexeme a) a h ∙ ap (λ r. r >>= behind_key (read limit)) (x.reads limit fits)
 
-pub other_item : {computed : Bool} {k : Term} {a b : Text} → IsReadKey computed k a b → begins_by_key (lexeme a) ≡ true → KeyItem computed k a b
-other_item {a = a} x h = record { key_read = x; open' = key_open (lexeme a) h; goes = λ limit fits colon. other_goes limit x h fits }
+opens_open : {computed : Bool} {k : Term} {a b : Text} → KeyOpens computed k a b → is_closing (lexeme a) ≡ false
+opens_open (by_word tok) = ap is_closing tok.lexeme_is
+opens_open {a = a} (by_token h) = key_open (lexeme a) h
+
+pub item_open : {computed : Bool} {k : Term} {a b : Text} → KeyItem computed k a b → is_closing (lexeme a) ≡ false
+item_open x = opens_open x.opens
+
+opens_goes : {computed : Bool} {k : Term} {a b : Text} → KeyOpens computed k a b → IsReadKey computed k a b → (limit : ℕ) → depth k ≤ limit → begins_key_at b ≡ false → sees (codes "*") b ≡ false → sees (codes ":") b || sees (codes "(") b ≡ true → property_item (read limit) a ≡ behind_key (read limit) (computed, k) b
+opens_goes (by_word tok) x limit fits h h' is = name_goes (read limit) tok h h' is
+opens_goes (by_token opens) x limit fits h h' is = other_goes limit x opens fits
+
+-- behind a key a property goes on by `:` or `(`
+pub item_goes : {computed : Bool} {k : Term} {a b : Text} → KeyItem computed k a b → (limit : ℕ) → depth k ≤ limit → begins_key_at b ≡ false → sees (codes "*") b ≡ false → sees (codes ":") b || sees (codes "(") b ≡ true → property_item (read limit) a ≡ behind_key (read limit) (computed, k) b
+item_goes x limit fits h h' is = opens_goes x.opens x.key_read limit fits h h' is
+
+other_item : {computed : Bool} {k : Term} {a b : Text} → IsReadKey computed k a b → begins_by_key (lexeme a) ≡ true → KeyItem computed k a b
+other_item x h = record { key_read = x; opens = by_token h }
 
 pub string_item : {raw v a b : Text} → Seen (string raw v) a b → KeyItem false (string_of v) a b
 string_item tok = other_item (string_key_read tok) (ap begins_by_key tok.lexeme_is)
@@ -138,14 +141,17 @@ item_key x = x.key_read
 pub item_utf8 : {computed : Bool} {k : Term} {a b : Text} → KeyItem computed k a b → IsUtf8 b
 item_utf8 x = let r = x.key_read in r.utf8
 
+pub colon_goes : {b c : Text} → Seen (sign (codes ":")) b c → sees (codes ":") b || sees (codes "(") b ≡ true
+colon_goes tok = rw (sees_by (codes ":") tok)
+
 pub property_field : {n : ℕ} {computed : Bool} {k e : Term} {a b c d : Text} → KeyItem computed k a b → Seen (sign (codes ":")) b c → StandsRead true n e c d → FoundItem property_of false (property (codes "init") false false computed k e) a d
 property_field {n} {computed} {k} {e} x tok y = let r = y.read in let kr = x.key_read in record {
   found = whole (property (codes "init") false false computed k e) 0 y.barred;
   tree_is = refl;
   cover_is = refl;
   utf8 = y.utf8;
-  reads = λ limit fits. some_item false (let s1 = kr.shorter in let s2 = tok.shorter in let s3 = r.shorter in omega arith) x.open'
-      (λ h. x.goes limit (omega arith) tok ∙ valued_there limit (computed, k) tok (found_expression r limit (omega arith) h)) (λ h. absurd (false≢true h));
+  reads = λ limit fits. some_item false (let s1 = kr.shorter in let s2 = tok.shorter in let s3 = r.shorter in omega arith) (item_open x)
+      (λ h. item_goes x limit (omega arith) (seen_key tok) (sees_by (codes "*") tok) (colon_goes tok) ∙ valued_there limit (computed, k) tok (found_expression r limit (omega arith) h)) (λ h. absurd (false≢true h));
 }
 
 -- ---- a name alone
@@ -164,27 +170,16 @@ separate_key (Some (template_head x)) h = absurd (false≢true h)
 separate_key (Some (template_middle x)) h = absurd (false≢true h)
 separate_key (Some (template_tail x)) h = absurd (false≢true h)
 
-separate_sign : (s : Text) (o : Option Lexeme) → separates o ≡ true → is_separating s ≡ false → is_sign s o ≡ false
-separate_sign s o h h' = go (is_sign s o) refl
-  where
-    go : (t : Bool) → is_sign s o ≡ t → is_sign s o ≡ false
-    go false e = e
-    go true e = absurd (false≢true (sym h' ∙ ap separates (sym (seen_sign s o e)) ∙ h))
-
 begins_none : (b : Text) → separates (lexeme b) ≡ true → begins_key_at b ≡ false
 unfolding begins_key_at
 begins_none b h = separate_key (lexeme b) h
 
-sees_none : (s b : Text) → separates (lexeme b) ≡ true → is_separating s ≡ false → sees s b ≡ false
-unfolding sees
-sees_none s b h h' = separate_sign s (lexeme b) h h'
-
 alone_there : (sub : Goal → Text → Reading Found) {x : Text} (b : Text) → is_reserved x ≡ false → separates (lexeme b) ≡ true → shorthand sub x b ≡ Some (shorthand_found x, b)
 unfolding shorthand
-alone_there sub b free h = rw (free, sees_none (codes "=") b h refl)
+alone_there sub b free h = rw (free, no_sign_by separates (codes "=") b h refl)
 
-pub shorthand_there : (sub : Goal → Text → Reading Found) {x a b : Text} → is_reserved x ≡ false → Seen (word x) a b → separates (lexeme b) ≡ true → property_item sub a ≡ Some (shorthand_found x, b)
-shorthand_there sub {x} {a} {b} free tok h = named_there sub tok ∙ plain_name sub x b (begins_none b h) (sees_none (codes "*") b h refl) ∙ rw (sees_none (codes ":") b h refl, sees_none (codes "(") b h refl) (alone_there sub b free h)
+shorthand_there : (sub : Goal → Text → Reading Found) {x a b : Text} → is_reserved x ≡ false → Seen (word x) a b → separates (lexeme b) ≡ true → property_item sub a ≡ Some (shorthand_found x, b)
+shorthand_there sub {x} {a} {b} free tok h = named_there sub tok ∙ plain_name sub x b (begins_none b h) (no_sign_by separates (codes "*") b h refl) ∙ rw (no_sign_by separates (codes ":") b h refl, no_sign_by separates (codes "(") b h refl) (alone_there sub b free h)
 
 pub shorthand_reads : (limit : ℕ) {x a b : Text} → is_reserved x ≡ false → Seen (word x) a b → ReadsItem false false (property_of limit) (shorthand_found x) a b
 shorthand_reads limit free tok = separate_item false tok.shorter (ap is_closing tok.lexeme_is) (λ h. shorthand_there (read limit) free tok h) (λ h. absurd (false≢true h))

@@ -16,6 +16,7 @@ use Rattle.js_reading.specs.Functions.{star, naming, Parameters, no_rest, rest_l
 use Rattle.js_reading.specs.Statements.{pattern}
 use Rattle.js_reading.specs.Read.{read}
 use Rattle.js_reading.proofs.TokensThere.{Seen, expect_read, sees_by}
+use Rattle.js_reading.proofs.Each.{no_sign_by}
 use Rattle.js_reading.proofs.Lists.{is_end, sees_sign, ending_end, comma_seen}
 use Rattle.js_reading.proofs.Follows.{holds, end_holds}
 use Rattle.js_reading.proofs.Climbs.{right_read}
@@ -42,14 +43,18 @@ pub record IsReadNaming (id : Term) (a b : Text) : Type 0 where
   pub short : length b ≤ length a
   pub reads : naming a ≡ Some (id, b)
 
--- before the parameters of a function or the brace of a class, or before a reserved word, as `extends`
-pub unnamed_sign_read : {s a b : Text} → IsUtf8 a → Seen (sign s) a b → IsReadNaming absent a a
-unfolding naming
-unnamed_sign_read u tok = record { utf8 = u; short = omega arith; reads = rw tok.lexeme_is }
+-- where no name stands: before the parameters of a function or the brace of a class, or before `extends`
+pub data Nameless (a : Text) : Type 0 where
+  before_sign : {s : Text} → lexeme a ≡ Some (sign s) → Nameless a
+  before_word : {x : Text} → is_reserved x ≡ true → lexeme a ≡ Some (word x) → Nameless a
 
-pub unnamed_word_read : {x a b : Text} → IsUtf8 a → is_reserved x ≡ true → Seen (word x) a b → IsReadNaming absent a a
+nameless_there : {a : Text} → Nameless a → naming a ≡ Some (absent, a)
 unfolding naming
-unnamed_word_read u h tok = record { utf8 = u; short = omega arith; reads = rw (tok.lexeme_is, h) }
+nameless_there (before_sign is) = rw is
+nameless_there (before_word h is) = rw (is, h)
+
+pub unnamed_read : {a : Text} → IsUtf8 a → Nameless a → IsReadNaming absent a a
+unnamed_read u h = record { utf8 = u; short = omega arith; reads = nameless_there h }
 
 pub named_read : {x a b : Text} → is_reserved x ≡ false → Seen (word x) a b → IsReadNaming (binding_of x) a b
 unfolding naming
@@ -62,9 +67,12 @@ pub record IsReadInitializer (i : Bool) (e : Term) (a b : Text) : Type 0 where
   pub short : length b ≤ length a
   pub reads : (limit : ℕ) → depth e ≤ limit → holds i (edge e) 1 b ≡ true → sees (codes "=") b ≡ false → initializer (read limit) i a ≡ Some (e, b)
 
-pub no_initializer_read : {i : Bool} {a : Text} → IsUtf8 a → IsReadInitializer i absent a a
+pub no_initializer_there : (sub : Goal → Text → Reading Found) (i : Bool) {a : Text} → sees (codes "=") a ≡ false → initializer sub i a ≡ Some (absent, a)
 unfolding initializer
-no_initializer_read u = record { utf8 = u; short = omega arith; reads = λ limit fits h h'. rw h' }
+no_initializer_there sub i h = rw h
+
+pub no_initializer_read : {i : Bool} {a : Text} → IsUtf8 a → IsReadInitializer i absent a a
+no_initializer_read {i} u = record { utf8 = u; short = omega arith; reads = λ limit fits h h'. no_initializer_there (read limit) i h' }
 
 pub initializer_read : {i : Bool} {n : ℕ} {e : Term} {a b c : Text} → Seen (sign (codes "=")) a b → StandsRead i n e b c → IsReadInitializer i e a c
 unfolding initializer
@@ -74,16 +82,8 @@ initializer_read tok x = let r = x.read in record {
   reads = λ limit fits h h'. rw (sees_by (codes "=") tok, tok.after_is, right_read r limit fits h);
 }
 
--- what ends an expression is no `=`
-end_no_equals : (b : Text) → is_end (lexeme b) ≡ true → sees (codes "=") b ≡ false
-end_no_equals b h = go (sees (codes "=") b) refl
-  where
-    go : (v : Bool) → sees (codes "=") b ≡ v → sees (codes "=") b ≡ false
-    go false is = is
-    go true is = absurd (false≢true (sym (ap is_end (sees_sign (codes "=") b is)) ∙ h))
-
 pub initializer_before : {i : Bool} {e : Term} {a b : Text} → IsReadInitializer i e a b → (limit : ℕ) → depth e ≤ limit → is_end (lexeme b) ≡ true → initializer (read limit) i a ≡ Some (e, b)
-initializer_before {i} {e} {b = b} x limit fits h = x.reads limit fits (end_holds i (edge e) 1 b h) (end_no_equals b h)
+initializer_before {i} {e} {b = b} x limit fits h = x.reads limit fits (end_holds i (edge e) 1 b h) (no_sign_by is_end (codes "=") b h refl)
 
 -- ---- patterns, as the parts of functions
 
@@ -205,6 +205,28 @@ and_parameter_read {p} {r} {ps} {k} {a} {b} {c} {d} x tok rest = record {
         ∙ rest.reads limit n (found ++ p ∷ []) (omega arith) fits' (let s1 = x.shorter in let s2 = tok.shorter in omega arith) h
         ∙ ap (λ ys. Some (listing ys r k, d)) (append_assoc found (p ∷ []) ps)
 
+-- what stands between the parentheses
+pub record IsReadRested (t : Bool) (ps : List Term) (r : Term) (a b : Text) : Type 0 where
+  pub utf8 : IsUtf8 b
+  pub short : length b ≤ length a
+  pub comma : Bool
+  pub allowed : comma && not t ≡ false
+  pub reads : (limit : ℕ) → depths (all ps) ≤ limit → depth r ≤ limit → sees (codes ")") b ≡ true → parameter_list (read limit) a ≡ Some (listing ps r comma, b)
+
+none_there : (sub : Goal → Text → Reading Found) {a : Text} → sees (codes ")") a ≡ true → parameter_list sub a ≡ Some (no_rest [] false, a)
+unfolding parameter_list
+none_there sub h = rw h
+
+pub no_parameters_read : {t : Bool} {a : Text} → IsUtf8 a → IsReadRested t [] absent a a
+no_parameters_read u = record { utf8 = u; short = omega arith; comma = false; allowed = refl; reads = λ limit fits fits' h. none_there (read limit) h }
+
+list_there : {ps : List Term} {r : Term} {k : Bool} {a b : Text} → IsReadParameters ps r k a b → (limit : ℕ) → depths (all ps) ≤ limit → depth r ≤ limit → sees (codes ")") b ≡ true → parameter_list (read limit) a ≡ Some (listing ps r k, b)
+unfolding parameter_list
+list_there {a = a} x limit fits fits' h = rw (x.no_close, x.reads limit (length a) [] fits fits' (omega arith) h)
+
+pub some_parameters_read : {t : Bool} {ps : List Term} {r : Term} {k : Bool} {a b : Text} → IsReadParameters ps r k a b → k && not t ≡ false → IsReadRested t ps r a b
+some_parameters_read {k = k} x h = record { utf8 = x.utf8; short = let s = x.shorter in omega arith; comma = k; allowed = h; reads = λ limit fits fits' h'. list_there x limit fits fits' h' }
+
 -- the parameters with their parentheses; the flag allows a comma behind them
 pub record IsReadFormals (t : Bool) (ps : Term) (a b : Text) : Type 0 where
   pub utf8 : IsUtf8 b
@@ -212,32 +234,16 @@ pub record IsReadFormals (t : Bool) (ps : Term) (a b : Text) : Type 0 where
   pub opens : lexeme a ≡ Some (sign (codes "("))
   pub reads : (limit : ℕ) → depth ps ≤ limit → parameters (read limit) t a ≡ Some (ps, b)
 
-empty_there : (sub : Goal → Text → Reading Found) {a b : Text} → Seen (sign (codes ")")) a b → parameter_list sub a ≡ Some (no_rest [] false, a)
-unfolding parameter_list
-empty_there sub tok = rw (sees_by (codes ")") tok)
-
-list_there : {ps : List Term} {r : Term} {k : Bool} {a b : Text} → IsReadParameters ps r k a b → (limit : ℕ) → depths (all ps) ≤ limit → depth r ≤ limit → sees (codes ")") b ≡ true → parameter_list (read limit) a ≡ Some (listing ps r k, b)
-unfolding parameter_list
-list_there {a = a} x limit fits fits' h = rw (x.no_close, x.reads limit (length a) [] fits fits' (omega arith) h)
-
-formals_there : (sub : Goal → Text → Reading Found) (t : Bool) (ps : List Term) (r : Term) (k : Bool) {a b c d : Text} → Seen (sign (codes "(")) a b → parameter_list sub b ≡ Some (listing ps r k, c) → Seen (sign (codes ")")) c d → k && not t ≡ false → parameters sub t a ≡ Some (rested Kind.FormalParameters ps r, d)
+formals_there : {t : Bool} {ps : List Term} {r : Term} {a b c d : Text} → Seen (sign (codes "(")) a b → IsReadRested t ps r b c → Seen (sign (codes ")")) c d → (limit : ℕ) → depths (all ps) ≤ limit → depth r ≤ limit → parameters (read limit) t a ≡ Some (rested Kind.FormalParameters ps r, d)
 unfolding parameters
-formals_there sub t ps r k opens is closes h = rw (expect_read opens, is, expect_read closes, h)
+formals_there opens x closes limit fits fits' = let h = x.allowed in rw (expect_read opens, x.reads limit fits fits' (sees_by (codes ")") closes), expect_read closes, h)
 
-pub no_parameters_read : (t : Bool) {a b c : Text} → Seen (sign (codes "(")) a b → Seen (sign (codes ")")) b c → IsReadFormals t (rested Kind.FormalParameters [] absent) a c
-no_parameters_read t opens closes = record {
+pub formals_read : {t : Bool} {ps : List Term} {r : Term} {a b c d : Text} → Seen (sign (codes "(")) a b → IsReadRested t ps r b c → Seen (sign (codes ")")) c d → IsReadFormals t (rested Kind.FormalParameters ps r) a d
+formals_read opens x closes = record {
   utf8 = closes.utf8;
-  shorter = let s1 = opens.shorter in let s2 = closes.shorter in omega arith;
+  shorter = let s1 = opens.shorter in let s2 = x.short in let s3 = closes.shorter in omega arith;
   opens = opens.lexeme_is;
-  reads = λ limit fits. formals_there (read limit) t [] absent false opens (empty_there (read limit) closes) closes refl;
-}
-
-pub formals_read : (t : Bool) {ps : List Term} {r : Term} {k : Bool} {a b c d : Text} → Seen (sign (codes "(")) a b → IsReadParameters ps r k b c → Seen (sign (codes ")")) c d → k && not t ≡ false → IsReadFormals t (rested Kind.FormalParameters ps r) a d
-formals_read t {ps} {r} {k} opens x closes h = record {
-  utf8 = closes.utf8;
-  shorter = let s1 = opens.shorter in let s2 = x.shorter in let s3 = closes.shorter in omega arith;
-  opens = opens.lexeme_is;
-  reads = λ limit fits. formals_there (read limit) t ps r k opens (list_there x limit (omega arith) (omega arith) (sees_by (codes ")") closes)) closes h;
+  reads = λ limit fits. formals_there opens x closes limit (omega arith) (omega arith);
 }
 
 -- ---- bodies

@@ -56,3 +56,6 @@ pub mod CoverItems
 pub mod CoverProperties
 pub mod PatternDepths
 pub mod PatternsRead
+pub mod FunctionTexts
+pub mod Methods
+pub mod ClassElements

@@ -163,6 +163,9 @@ array_pattern_cover {ps} {r} {b = b} {c = c} tok g tok' =
       };
     }
 
+pub pattern_utf8 : {p : Term} {a b : Text} → PatternCover p a b → IsUtf8 b
+pattern_utf8 x = let r = x.read in r.utf8
+
 -- ---- a pattern with a default or without
 
 pub pattern_alone : {p : Term} {a b : Text} → PatternCover p a b → DefaultCover (λ u. pattern_of true u) p a b

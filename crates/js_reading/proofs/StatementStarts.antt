@@ -7,10 +7,10 @@ use Rattle.js_term.specs.Lexeme.{is_one_of}
 use Rattle.js_syntax.specs.Printable.{ends_open}
 use Rattle.js_syntax.specs.Tokens.{Lexeme, word, private_name, number, big_integer, string, no_substitution, template_head, sign, regexp, template_middle, template_tail}
 use Rattle.js_tokens.specs.Next.{lexeme}
-use Rattle.js_reading.specs.Reading.{is_sign, is_word, sees, sees_word, at_end}
+use Rattle.js_reading.specs.Reading.{is_sign, sees, sees_word, at_end}
 use Rattle.js_reading.specs.Statements.{statement}
 use Rattle.js_reading.specs.Read.{read}
-use Rattle.js_reading.proofs.Each.{sign_is, word_is, is_end as at_its_end}
+use Rattle.js_reading.proofs.Each.{no_sign_by, no_word_by, is_end as at_its_end}
 use Rattle.js_reading.proofs.TokensThere.{Seen, sees_by}
 use Rattle.js_reading.proofs.TokensEnd.{end_lexeme}
 use Rattle.js_reading.proofs.Opens.{begins, begins_by}
@@ -30,20 +30,10 @@ starts (Some l) = starts_by l
 
 -- no statement begins with this sign, with this word
 pub starts_no_sign : (s a : Text) → starts (lexeme a) ≡ true → starts_by (sign s) ≡ false → sees s a ≡ false
-unfolding sees
-starts_no_sign s a h other = go (is_sign s (lexeme a)) refl
-  where
-    go : (b : Bool) → is_sign s (lexeme a) ≡ b → is_sign s (lexeme a) ≡ false
-    go false e = e
-    go true e = absurd (false≢true (sym other ∙ sym (ap starts (sign_is s (lexeme a) e)) ∙ h))
+starts_no_sign s a h other = no_sign_by starts s a h other
 
 pub starts_no_word : (x a : Text) → starts (lexeme a) ≡ true → starts_by (word x) ≡ false → sees_word x a ≡ false
-unfolding sees_word
-starts_no_word x a h other = go (is_word x (lexeme a)) refl
-  where
-    go : (b : Bool) → is_word x (lexeme a) ≡ b → is_word x (lexeme a) ≡ false
-    go false e = e
-    go true e = absurd (false≢true (sym other ∙ sym (ap starts (word_is x (lexeme a) e)) ∙ h))
+starts_no_word x a h other = no_word_by starts x a h other
 
 pub starts_no_end : (a : Text) → starts (lexeme a) ≡ true → at_end a ≡ false
 starts_no_end a h = go (at_end a) refl
