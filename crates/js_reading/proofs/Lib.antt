@@ -59,3 +59,5 @@ pub mod PatternsRead
 pub mod FunctionTexts
 pub mod Methods
 pub mod ClassElements
+pub mod Below
+pub mod ListsBelow
