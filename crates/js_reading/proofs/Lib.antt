@@ -52,3 +52,5 @@ pub mod Jumping
 pub mod ItemsRead
 pub mod StatementsThere
 pub mod Bodies
+pub mod ItemStarts
+pub mod Exported
