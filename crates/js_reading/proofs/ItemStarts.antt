@@ -11,10 +11,6 @@ use Rattle.js_reading.proofs.TokensThere.{Seen, sees_word_by}
 use Rattle.js_reading.proofs.TokensEnd.{end_none, some_none, no_lexeme, seen_not_end}
 use Rattle.js_reading.proofs.StatementStarts.{starts, starts_no_word, Follows, starts_follow, token_follows}
 
--- a statement, an import or an export
-abbrev pub starts_item : Option Lexeme → Bool
-starts_item o = starts o || is_word (codes "export") o
-
 -- What comes behind an item takes none of it.
 pub record ItemFollows (b : Text) : Type 0 where
   pub follows : Follows b

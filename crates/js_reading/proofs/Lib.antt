@@ -54,3 +54,4 @@ pub mod StatementsThere
 pub mod Bodies
 pub mod ItemStarts
 pub mod Exported
+pub mod ItemsThere
