@@ -1,8 +1,8 @@
 -- With what the text of a module item begins, and what may follow one.
-use Rattle.std.proofs.Common.{◌≡◌, ◌≤◌, ◌<◌, ℕ, Bool, true, false, ◌||◌, length, Option, Some, None, refl, sym, ◌∙◌, ap, arith, codes}
+use Rattle.std.proofs.Common.{◌≡◌, ◌≤◌, ◌<◌, ℕ, true, false, length, Some, None, refl, sym, ◌∙◌, ap, arith, codes}
 use Rattle.std.specs.Str.{IsUtf8}
 use Rattle.js_term.specs.Term.{Text, Term, depth}
-use Rattle.js_syntax.specs.Tokens.{Lexeme, word}
+use Rattle.js_syntax.specs.Tokens.{word}
 use Rattle.js_tokens.specs.Next.{lexeme}
 use Rattle.js_reading.specs.Reading.{is_word, sees_word, at_end}
 use Rattle.js_reading.specs.Modules.{module_item}
