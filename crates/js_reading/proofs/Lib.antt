@@ -55,3 +55,4 @@ pub mod Bodies
 pub mod ItemStarts
 pub mod Exported
 pub mod ItemsThere
+pub mod ModulesThere
