@@ -56,3 +56,4 @@ pub mod ItemStarts
 pub mod Exported
 pub mod ItemsThere
 pub mod ModulesThere
+pub mod Complete
