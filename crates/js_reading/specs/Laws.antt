@@ -17,7 +17,7 @@ pub record ReadBehind (hashbang : List Text) (ds ss : List Term) (a : Text) : Ty
   pub opened : Hashbang hashbang a behind
   pub reads : read_body behind ≡ Some ((ds, ss), rest)
 
--- What is spelled is read, where its tree is no deeper than this.
+-- What is spelled is read, where its tree has a depth of 512 at most.
 pub record Complete : Type 0 where
   pub read : (hashbang : List Text) (ds ss : List Term) (a : Text) → IsUtf8 a → Spells a (module_of hashbang ds ss) → depth (module_of hashbang ds ss) ≤ 512 → ReadBehind hashbang ds ss a
 
