@@ -30,7 +30,7 @@ use Rattle.js_reading.proofs.Claims.{FunctionOpens, plain_function, async_functi
 use Rattle.js_reading.proofs.Ending.{behind_semicolon}
 use Rattle.js_reading.proofs.StatementStarts.{IsReadStatement}
 use Rattle.js_reading.proofs.ImportsRead.{export_there}
-use Rattle.js_reading.proofs.ItemStarts.{ItemFollows, IsReadItem, word_item}
+use Rattle.js_reading.proofs.ItemStarts.{ItemFollows, export_follows, IsReadItem, word_item}
 
 -- ---- declarations
 
@@ -52,7 +52,7 @@ exported_there : {d : Term} {a b c : Text} → Seen (word (codes "export")) a b 
 exported_there tok s r limit fits k = export_there (read limit) tok ∙ declaration_there (read limit) s tok.utf8 ∙ rw (r.reads limit (omega arith) k.follows (and_left _ _ k.no_else))
 
 pub export_declaration_item : {d : Term} {a b c : Text} → Seen (word (codes "export")) a b → Declaration d b c → IsReadStatement d b c → IsReadItem (export_declaration_of d) a c
-export_declaration_item tok s r = word_item tok refl r.utf8 (let k = r.shorter in omega arith) (λ limit fits k. exported_there tok s r limit (omega arith) k)
+export_declaration_item tok s r = word_item tok (export_follows tok) r.utf8 (let k = r.shorter in omega arith) (λ limit fits k. exported_there tok s r limit (omega arith) k)
 
 -- ---- what is exported by default
 
@@ -135,4 +135,4 @@ unfolding export_item default
 default_there sub tok tok' is = export_there sub tok ∙ rw (tok'.lexeme_is, tok'.after_is, is)
 
 pub export_default_item : {d : Term} {a b c e : Text} → Seen (word (codes "export")) a b → Seen (word (codes "default")) b c → IsReadDefault d c e → IsReadItem (of_part Kind.ExportDefaultDeclaration d) a e
-export_default_item tok tok' r = word_item tok refl r.utf8 (let s = tok'.shorter in let k = r.shorter in omega arith) (λ limit fits k. default_there (read limit) tok tok' (r.reads limit (omega arith)))
+export_default_item tok tok' r = word_item tok (export_follows tok) r.utf8 (let s = tok'.shorter in let k = r.shorter in omega arith) (λ limit fits k. default_there (read limit) tok tok' (r.reads limit (omega arith)))

@@ -16,11 +16,14 @@ pub record ItemFollows (b : Text) : Type 0 where
   pub follows : Follows b
   pub no_else : sees_word (codes "else") b ≡ false
 
-pub word_follows_item : {x a b : Text} → Seen (word x) a b → is_word (codes "else") (Some (word x)) ≡ false → ItemFollows a
-word_follows_item tok h = record { follows = token_follows tok refl refl; no_else = sees_word_by (codes "else") tok ∙ h }
-
 pub statement_follows_item : (a : Text) → starts (lexeme a) ≡ true → ItemFollows a
 statement_follows_item a h = record { follows = starts_follow a h; no_else = starts_no_word (codes "else") a h refl }
+
+pub import_follows : {a b : Text} → Seen (word (codes "import")) a b → ItemFollows a
+import_follows {a} tok = statement_follows_item a (ap starts tok.lexeme_is)
+
+pub export_follows : {a b : Text} → Seen (word (codes "export")) a b → ItemFollows a
+export_follows tok = record { follows = token_follows tok refl refl; no_else = sees_word_by (codes "else") tok }
 
 no_word_at_end : (s a : Text) → lexeme a ≡ None → sees_word s a ≡ false
 unfolding sees_word
@@ -38,13 +41,13 @@ pub record IsReadItem (s : Term) (a b : Text) : Type 0 where
   pub follows : ItemFollows a
   pub reads : (limit : ℕ) → depth s ≤ limit → ItemFollows b → module_item (read limit) a ≡ Some (s, b)
 
--- one that begins with a word other than `else`, whatever follows
-pub word_item : {x : Text} {s : Term} {a b c : Text} → Seen (word x) a b → is_word (codes "else") (Some (word x)) ≡ false → IsUtf8 c → length c ≤ length b → ((limit : ℕ) → depth s ≤ limit → ItemFollows c → module_item (read limit) a ≡ Some (s, c)) → IsReadItem s a c
-word_item {x} tok h u short reads = record {
+-- one that begins with a word, whatever follows
+pub word_item : {x : Text} {s : Term} {a b c : Text} → Seen (word x) a b → ItemFollows a → IsUtf8 c → length c ≤ length b → ((limit : ℕ) → depth s ≤ limit → ItemFollows c → module_item (read limit) a ≡ Some (s, c)) → IsReadItem s a c
+word_item {x} tok k u short reads = record {
   utf8 = u;
   shorter = let s = tok.shorter in omega arith;
   more = seen_not_end tok;
   token = λ e. some_none (word x) (sym e ∙ tok.lexeme_is);
-  follows = word_follows_item tok h;
+  follows = k;
   reads = reads;
 }

@@ -33,7 +33,7 @@ use Rattle.js_reading.proofs.Specified.{NameRead, name_at_utf8, name_at_shorter,
 use Rattle.js_reading.proofs.Clauses.{import_clause_read, FromRead, from_text_read}
 use Rattle.js_reading.proofs.ExportsRead.{LocalListRead, local_list_read, IndirectListRead, indirect_list_read, no_from_behind}
 use Rattle.js_reading.proofs.ImportsRead.{bare_import_item, import_from_item, export_all_item, export_all_as_item, export_from_item, export_named_item}
-use Rattle.js_reading.proofs.ItemStarts.{ItemFollows, statement_follows_item, IsReadItem, word_item}
+use Rattle.js_reading.proofs.ItemStarts.{ItemFollows, statement_follows_item, import_follows, export_follows, IsReadItem, word_item}
 use Rattle.js_reading.proofs.Exported.{export_declaration_item, IsReadDefault, function_default, class_default, expression_default, export_default_item}
 
 -- what is read of the parts below the items of a module
@@ -136,29 +136,29 @@ statement_item {a = a} r = record {
 -- ---- imports
 
 pub bare_import_read : {raw source a b c d : Text} → Seen (word (codes "import")) a b → Seen (string raw source) b c → Semicolon plain c d → IsReadItem (of_parts Kind.ImportDeclaration absent (string_of source)) a d
-bare_import_read tok x end = word_item tok refl (semicolon_utf8 end x.utf8) (let s = x.shorter in let k = semicolon_short end x.utf8 in omega arith) (λ limit fits k. bare_import_item (read limit) tok x end)
+bare_import_read tok x end = word_item tok (import_follows tok) (semicolon_utf8 end x.utf8) (let s = x.shorter in let k = semicolon_short end x.utf8 in omega arith) (λ limit fits k. bare_import_item (read limit) tok x end)
 
 pub import_from_read : {ts : List Term} {source a b c d e : Text} → Seen (word (codes "import")) a b → ImportClause ts b c → FromRead source c d → Semicolon plain d e → IsReadItem (of_parts Kind.ImportDeclaration (list (all ts)) (string_of source)) a e
-import_from_read tok clause f end = let r = import_clause_read clause tok.utf8 in word_item tok refl (semicolon_utf8 end f.utf8) (let s = r.shorter in let s' = f.shorter in let k = semicolon_short end f.utf8 in omega arith) (λ limit fits k. import_from_item (read limit) tok clause r f end)
+import_from_read tok clause f end = let r = import_clause_read clause tok.utf8 in word_item tok (import_follows tok) (semicolon_utf8 end f.utf8) (let s = r.shorter in let s' = f.shorter in let k = semicolon_short end f.utf8 in omega arith) (λ limit fits k. import_from_item (read limit) tok clause r f end)
 
 -- ---- exports
 
 pub export_all_read : {source a b c d e : Text} → Seen (word (codes "export")) a b → Seen (sign (codes "*")) b c → FromRead source c d → Semicolon plain d e → IsReadItem (of_parts Kind.ExportAllDeclaration absent (string_of source)) a e
-export_all_read tok star f end = word_item tok refl (semicolon_utf8 end f.utf8) (let s = star.shorter in let s' = f.shorter in let k = semicolon_short end f.utf8 in omega arith) (λ limit fits k. export_all_item (read limit) tok star f end)
+export_all_read tok star f end = word_item tok (export_follows tok) (semicolon_utf8 end f.utf8) (let s = star.shorter in let s' = f.shorter in let k = semicolon_short end f.utf8 in omega arith) (λ limit fits k. export_all_item (read limit) tok star f end)
 
 pub export_all_as_read : {m : Term} {source a b c d e f g : Text} → Seen (word (codes "export")) a b → Seen (sign (codes "*")) b c → Seen (word (codes "as")) c d → NameRead m d e → FromRead source e f → Semicolon plain f g → IsReadItem (of_parts Kind.ExportAllDeclaration m (string_of source)) a g
 export_all_as_read {source = source} {a} {g = g} tok star as' n f end =
     subst (λ m. IsReadItem (of_parts Kind.ExportAllDeclaration m (string_of source)) a g) n.tree_is
-    (word_item tok refl (semicolon_utf8 end f.utf8) (let s1 = star.shorter in let s2 = as'.shorter in let s3 = name_at_shorter n.at in let s4 = f.shorter in let k = semicolon_short end f.utf8 in omega arith) (λ limit fits k. export_all_as_item (read limit) tok star as' n.at f end))
+    (word_item tok (export_follows tok) (semicolon_utf8 end f.utf8) (let s1 = star.shorter in let s2 = as'.shorter in let s3 = name_at_shorter n.at in let s4 = f.shorter in let k = semicolon_short end f.utf8 in omega arith) (λ limit fits k. export_all_as_item (read limit) tok star as' n.at f end))
 
 pub export_from_read : {ts : List Term} {source a b c d e f g : Text} → Seen (word (codes "export")) a b → Seen (sign (codes "{")) b c → IndirectListRead ts c d → Seen (sign (codes "}")) d e → FromRead source e f → Semicolon plain f g → IsReadItem (of_parts Kind.ExportFromDeclaration (list (all ts)) (string_of source)) a g
 export_from_read {source = source} {a} {g = g} tok open' r close' f end =
     subst (λ ts. IsReadItem (of_parts Kind.ExportFromDeclaration (list (all ts)) (string_of source)) a g) r.means
-    (word_item tok refl (semicolon_utf8 end f.utf8) (let s1 = open'.shorter in let s2 = list_short r.items in let s3 = close'.shorter in let s4 = f.shorter in let k = semicolon_short end f.utf8 in omega arith) (λ limit fits k. export_from_item (read limit) tok open' r.items close' f end))
+    (word_item tok (export_follows tok) (semicolon_utf8 end f.utf8) (let s1 = open'.shorter in let s2 = list_short r.items in let s3 = close'.shorter in let s4 = f.shorter in let k = semicolon_short end f.utf8 in omega arith) (λ limit fits k. export_from_item (read limit) tok open' r.items close' f end))
 
 pub export_named_read : {ts : List Term} {a b c d e f : Text} → Seen (word (codes "export")) a b → Seen (sign (codes "{")) b c → LocalListRead ts c d → Seen (sign (codes "}")) d e → Semicolon exports e f → IsReadItem (of_list Kind.ExportNamedDeclaration (all ts)) a f
 export_named_read tok open' r close' end =
-    word_item tok refl (semicolon_utf8 end close'.utf8) (let s1 = open'.shorter in let s2 = list_short r.items in let s3 = close'.shorter in let k = semicolon_short end close'.utf8 in omega arith) (λ limit fits k. export_named_item (read limit) tok open' r.items close' r.means (no_from_behind (ends_so end close'.utf8)) end)
+    word_item tok (export_follows tok) (semicolon_utf8 end close'.utf8) (let s1 = open'.shorter in let s2 = list_short r.items in let s3 = close'.shorter in let k = semicolon_short end close'.utf8 in omega arith) (λ limit fits k. export_named_item (read limit) tok open' r.items close' r.means (no_from_behind (ends_so end close'.utf8)) end)
 
 -- ---- items by their derivations
 
