@@ -61,3 +61,9 @@ pub mod Methods
 pub mod ClassElements
 pub mod Below
 pub mod ListsBelow
+pub mod Bodies
+pub mod ItemStarts
+pub mod Exported
+pub mod ItemsThere
+pub mod ModulesThere
+pub mod Complete

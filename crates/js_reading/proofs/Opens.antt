@@ -134,7 +134,7 @@ pub record Defines (a : Text) : Type 0 where
   pub no_brace : sees (codes "{") a ≡ false
   pub definition : begins_definition a ≡ true
 
-async_definition : {a b c : Text} → Seen (word (codes "async")) a b → same_line b ≡ true → Seen (word (codes "function")) b c → begins_async_function (after a) ≡ true
+pub async_definition : {a b c : Text} → Seen (word (codes "async")) a b → same_line b ≡ true → Seen (word (codes "function")) b c → begins_async_function (after a) ≡ true
 unfolding begins_async_function
 async_definition x line y = rw (x.after_is, line, sees_word_by (codes "function") y) refl
 

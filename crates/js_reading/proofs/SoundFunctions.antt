@@ -97,7 +97,7 @@ pub record Directed (raw a b : Text) : Type 0 where
   pub token : Token a (string raw value) middle
   pub end : Semicolon full middle b
 
-directive_each : (a : Text) → IsUtf8 a → Each (λ raw b. Directed raw a b) (directive_by (lexeme a) (after a))
+pub directive_each : (a : Text) → IsUtf8 a → Each (λ raw b. Directed raw a b) (directive_by (lexeme a) (after a))
 directive_each a u = go (lexeme a) refl
   where
     go : (o : Option Lexeme) → lexeme a ≡ o → Each (λ raw b. Directed raw a b) (directive_by o (after a))

@@ -1,5 +1,5 @@
 -- Names, specifiers and clauses of imports and exports that stand in a text are read.
-use Rattle.std.proofs.Common.{◌≡◌, ◌<◌, true, false, List, [], ◌∷◌, length, Option, Some, None, refl, ap, arith, codes}
+use Rattle.std.proofs.Common.{◌≡◌, ◌≤◌, ◌<◌, true, false, List, [], ◌∷◌, length, Option, Some, None, refl, ap, arith, codes}
 use Rattle.std.specs.Str.{IsUtf8}
 use Rattle.std.proofs.lemmas.Bool.{false≢true}
 use Rattle.js_term.specs.Term.{Text, Term}
@@ -60,6 +60,11 @@ pub and_read : {A : Type 0} {item : Text → Reading A} {x : A} {xs : List A} {a
 and_read r tok none_read = comma_read (last_all r) tok
 and_read r tok (plain_read rest) = plain_read (and_all r tok rest)
 and_read r tok (comma_read rest more) = comma_read (and_all r tok rest) more
+
+pub list_short : {A : Type 0} {item : Text → Reading A} {xs : List A} {a b : Text} → ListRead item xs a b → length b ≤ length a
+list_short none_read = omega arith
+list_short (plain_read r) = r.short
+list_short (comma_read r tok) = let s = r.short in let k = tok.shorter in omega arith
 
 not_word : (s : Text) (o : Option Lexeme) → separates o ≡ true → is_word s o ≡ false
 not_word s None h = refl

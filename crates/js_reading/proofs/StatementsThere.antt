@@ -34,7 +34,7 @@ unfolding read
 statement_goal r zero fits w h = absurd (let s = r.deep in omega arith)
 statement_goal r (suc limit) fits w h = rw (r.reads limit fits w h)
 
-statement_part : {s : Term} {a b : Text} → IsReadStatement s a b → (limit : ℕ) → depth s ≤ limit → Follows b → (sees_word (codes "else") b && ends_open s) ≡ false → inner (read limit) a ≡ Some (s, b)
+pub statement_part : {s : Term} {a b : Text} → IsReadStatement s a b → (limit : ℕ) → depth s ≤ limit → Follows b → (sees_word (codes "else") b && ends_open s) ≡ false → inner (read limit) a ≡ Some (s, b)
 unfolding inner
 statement_part r limit fits w h = rw (statement_goal r limit fits w h)
 

@@ -34,7 +34,7 @@ pub end_none : (a : Text) → at_end a ≡ true → lexeme a ≡ None
 unfolding lexeme next at_end
 end_none a h = end_gap (gap false a) h
 
-some_none : (l : Lexeme) → ◌≡◌ {A = Option Lexeme} None (Some l) → ⊥
+pub some_none : (l : Lexeme) → ◌≡◌ {A = Option Lexeme} None (Some l) → ⊥
 some_none l h = cc
 
 pub seen_not_end : {l : Lexeme} {a b : Text} → Seen l a b → at_end a ≡ false
