@@ -67,3 +67,5 @@ pub mod Exported
 pub mod ItemsThere
 pub mod ModulesThere
 pub mod Complete
+pub mod StatementsBelow
+pub mod FunctionsBelow
