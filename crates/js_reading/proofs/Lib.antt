@@ -51,3 +51,4 @@ pub mod ExportsRead
 pub mod Jumping
 pub mod ItemsRead
 pub mod StatementsThere
+pub mod Effects

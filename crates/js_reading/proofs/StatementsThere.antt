@@ -25,7 +25,7 @@ use Rattle.js_reading.proofs.Listings.{IsReadExpression, expression_before}
 use Rattle.js_reading.proofs.Claims.{IsReadStatements}
 use Rattle.js_reading.proofs.Jumping as jumping
 use Rattle.js_reading.proofs.Opens.{begins, no_sign_there}
-use Rattle.js_reading.proofs.StatementStarts.{starts, begins_starts, starts_no_end, starts_no_sign, starts_no_word, Follows, starts_follow, token_follows, IsReadStatement}
+use Rattle.js_reading.proofs.StatementStarts.{starts, begins_starts, starts_no_end, starts_no_sign, starts_no_word, Follows, starts_follow, token_follows, IsReadStatement, behind_follows, goes_behind}
 
 -- ---- a statement as a part
 
@@ -42,7 +42,7 @@ pub record IsReadEmbedded (s : Term) (a b : Text) : Type 0 where
   pub body : is_body s ≡ true
   pub read : IsReadStatement s a b
 
-embedded_reads : {s : Term} {a b : Text} (limit : ℕ) → IsReadEmbedded s a b → depth s ≤ limit → Follows b → (sees_word (codes "else") b && ends_open s) ≡ false → embedded (read limit) a ≡ Some (s, b)
+pub embedded_reads : {s : Term} {a b : Text} (limit : ℕ) → IsReadEmbedded s a b → depth s ≤ limit → Follows b → (sees_word (codes "else") b && ends_open s) ≡ false → embedded (read limit) a ≡ Some (s, b)
 unfolding embedded
 embedded_reads limit r fits w h = rw (statement_part r.read limit fits w h, r.body)
 
@@ -53,7 +53,7 @@ condition_reads limit open' x close fits = rw (expect_read open', expression_bef
 
 -- ---- by the first token
 
-word_there : {x : Text} (sub : Goal → Text → Reading Found) {a b : Text} → Seen (word x) a b → statement sub a ≡ word_statement sub x a
+pub word_there : {x : Text} (sub : Goal → Text → Reading Found) {a b : Text} → Seen (word x) a b → statement sub a ≡ word_statement sub x a
 unfolding statement
 word_there sub t = rw (t.lexeme_is)
 
@@ -118,7 +118,7 @@ pub record StatementsFollow (ss : List Term) (a b : Text) : Type 0 where
 
 brace_follows : (b : Text) → sees (codes "}") b ≡ true → Follows b × (sees_word (codes "else") b ≡ false)
 unfolding sees sees_word
-brace_follows b is = let l = sees_sign (codes "}") b is in (record { no_comma = rw l refl; no_equals = rw l refl }, rw l refl)
+brace_follows b is = let l = sees_sign (codes "}") b is in (behind_follows b (ap goes_behind l), rw l refl)
 
 next_reads : {s : Term} {ss : List Term} {a b c : Text} (limit n : ℕ) (found : List Term) → IsReadStatement s a b → StatementsFollow ss b c → depths (all (s ∷ ss)) ≤ limit → length a ≤ n → sees (codes "}") c ≡ true → statements (read limit) n found a ≡ Some (found ++ s ∷ ss, c)
 unfolding statements
@@ -180,14 +180,10 @@ while_read t x y = let r = y.read in record {
   reads = λ limit fits w h. while_reads limit t x y (omega arith) (omega arith) w h;
 }
 
--- a word other than `else` follows a statement
-word_follows : {x b c : Text} → Seen (word x) b c → Follows b
-word_follows t = token_follows t refl refl
-
 do_reads : {e s : Term} {a b c d f g : Text} (limit : ℕ) → Seen (word (codes "do")) a b → IsReadEmbedded s b c → Seen (word (codes "while")) c d → IsReadCondition e d f → DoEnd f g → depth e ≤ limit → depth s ≤ limit → statement (read limit) a ≡ Some (of_parts Kind.DoWhileStatement s e, g)
 unfolding word_statement do_statement
 do_reads {s = s} {c = c} limit t y t' x end fits fits' =
-    word_there (read limit) t ∙ rw (t.after_is, embedded_reads limit y fits' (word_follows t') (no_both (sees_word (codes "else") c) (ends_open s) (sees_word_by (codes "else") t')), expect_word_read t', x.reads limit fits, do_end_read end x.utf8)
+    word_there (read limit) t ∙ rw (t.after_is, embedded_reads limit y fits' (token_follows t' refl) (no_both (sees_word (codes "else") c) (ends_open s) (sees_word_by (codes "else") t')), expect_word_read t', x.reads limit fits, do_end_read end x.utf8)
 
 pub do_read : {e s : Term} {a b c d f g : Text} → Seen (word (codes "do")) a b → IsReadEmbedded s b c → Seen (word (codes "while")) c d → IsReadCondition e d f → DoEnd f g → IsReadStatement (of_parts Kind.DoWhileStatement s e) a g
 do_read t y t' x end = let r = y.read in record {
@@ -206,7 +202,7 @@ present_ends e s (node k texts ts) h = refl
 if_else_reads : {e s t : Term} {a b c d f g : Text} (limit : ℕ) → ends_open s ≡ false → Seen (word (codes "if")) a b → IsReadCondition e b c → IsReadEmbedded s c d → Seen (word (codes "else")) d f → IsReadEmbedded t f g → depth e ≤ limit → depth s ≤ limit → depth t ≤ limit → Follows g → (sees_word (codes "else") g && ends_open t) ≡ false → statement (read limit) a ≡ Some (if_of e s t, g)
 unfolding word_statement if_statement alternate
 if_else_reads {s = s} {d = d} limit shut t x y t' z fits fits' fits'' w h =
-    word_there (read limit) t ∙ rw (t.after_is, x.reads limit fits, embedded_reads limit y fits' (word_follows t') (shut_in (sees_word (codes "else") d) shut), sees_word_by (codes "else") t', t'.after_is, embedded_reads limit z fits'' w h, shut)
+    word_there (read limit) t ∙ rw (t.after_is, x.reads limit fits, embedded_reads limit y fits' (token_follows t' refl) (shut_in (sees_word (codes "else") d) shut), sees_word_by (codes "else") t', t'.after_is, embedded_reads limit z fits'' w h, shut)
   where
     shut_in : (p : Bool) → ends_open s ≡ false → (p && ends_open s) ≡ false
     shut_in true e = e
