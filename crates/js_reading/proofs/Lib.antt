@@ -52,3 +52,4 @@ pub mod Jumping
 pub mod ItemsRead
 pub mod StatementsThere
 pub mod Effects
+pub mod Declarations
