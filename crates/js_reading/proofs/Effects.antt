@@ -2,7 +2,7 @@
 use Rattle.std.proofs.Common.{◌≡◌, ◌≤◌, ℕ, Bool, true, false, not, ◌&&◌, ◌||◌, Option, Some, None, refl, sym, ◌∙◌, ap, arith, codes, []}
 use Rattle.std.specs.Str.{IsUtf8}
 use Rattle.std.proofs.lemmas.Bool.{false≢true, and_left, and_right, or_parts, or_from, not-true, and_parts}
-use Rattle.js_term.specs.Term.{Text, is_text, Term, depth}
+use Rattle.js_term.specs.Term.{Text, Term, depth}
 use Rattle.js_term.specs.declared.kind.Kind.{Kind}
 use Rattle.js_term.specs.Lexeme.{is_reserved}
 use Rattle.js_term.specs.Node.{identifier_of, statement_of}
@@ -19,7 +19,7 @@ use Rattle.js_reading.specs.Read.{read}
 use Rattle.js_reading.proofs.Each.{there}
 use Rattle.js_reading.proofs.TokensThere.{Seen, see_word, sees_by, sees_word_by}
 use Rattle.js_reading.proofs.TokensEnd.{Ended, by_sign, by_stop, ended, end_none, lexeme_sees, semicolon_utf8, semicolon_short}
-use Rattle.js_reading.proofs.Opens.{begins, begins_by, begins_definition, Opens, no_sign_there, no_word_there}
+use Rattle.js_reading.proofs.Opens.{begins, begins_definition, Opens, no_sign_there, word_among}
 use Rattle.js_reading.proofs.Joining.{Joined, no_definition_there}
 use Rattle.js_reading.proofs.Lists.{ending_end, sees_sign}
 use Rattle.js_reading.proofs.Follows.{either_case}
@@ -64,32 +64,30 @@ labels o b = false
 
 -- ---- a statement that begins with no word of its own
 
-no_word : {x a b : Text} (y : Text) → begins (lexeme a) ≡ true → Seen (word x) a b → begins_by (word y) ≡ false → is_text x y ≡ false
-no_word {a = a} y h tok other = sym (sees_word_by y tok) ∙ no_word_there y a h other
-
 plain_there : (sub : Goal → Text → Reading Found) {x a b : Text} → begins (lexeme a) ≡ true → Seen (word x) a b → begins_definition a ≡ false → word_statement sub x a ≡ plain_statement sub x a
 unfolding word_statement
 plain_there sub {x} {a} h tok calm =
+    let starts : begins (Some (word x)) ≡ true = sym (ap begins tok.lexeme_is) ∙ h in
     let (function, rest) = or_parts (sees_word (codes "function") a) _ calm in
     let (class, async) = or_parts (sees_word (codes "class") a) _ rest in
     rw (
-      no_word (codes "var") h tok refl,
-      no_word (codes "let") h tok refl,
-      no_word (codes "const") h tok refl,
+      word_among (codes "var") (Some (word x)) starts refl,
+      word_among (codes "let") (Some (word x)) starts refl,
+      word_among (codes "const") (Some (word x)) starts refl,
       sym (sees_word_by (codes "function") tok) ∙ function,
       ap (λ k. k && begins_async_function (after a)) (sym (sees_word_by (codes "async") tok)) ∙ async,
       sym (sees_word_by (codes "class") tok) ∙ class,
-      no_word (codes "return") h tok refl,
-      no_word (codes "throw") h tok refl,
-      no_word (codes "if") h tok refl,
-      no_word (codes "switch") h tok refl,
-      no_word (codes "try") h tok refl,
-      no_word (codes "do") h tok refl,
-      no_word (codes "while") h tok refl,
-      no_word (codes "for") h tok refl,
-      no_word (codes "continue") h tok refl,
-      no_word (codes "break") h tok refl,
-      no_word (codes "debugger") h tok refl,
+      word_among (codes "return") (Some (word x)) starts refl,
+      word_among (codes "throw") (Some (word x)) starts refl,
+      word_among (codes "if") (Some (word x)) starts refl,
+      word_among (codes "switch") (Some (word x)) starts refl,
+      word_among (codes "try") (Some (word x)) starts refl,
+      word_among (codes "do") (Some (word x)) starts refl,
+      word_among (codes "while") (Some (word x)) starts refl,
+      word_among (codes "for") (Some (word x)) starts refl,
+      word_among (codes "continue") (Some (word x)) starts refl,
+      word_among (codes "break") (Some (word x)) starts refl,
+      word_among (codes "debugger") (Some (word x)) starts refl,
     )
 
 plain_effect : (sub : Goal → Text → Reading Found) (x a : Text) → (not (is_reserved x) && sees (codes ":") (after a)) ≡ false → plain_statement sub x a ≡ effect sub a

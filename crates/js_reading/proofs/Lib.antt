@@ -53,3 +53,4 @@ pub mod ItemsRead
 pub mod StatementsThere
 pub mod Effects
 pub mod Declarations
+pub mod Heads
