@@ -54,3 +54,4 @@ pub mod StatementsThere
 pub mod Effects
 pub mod Declarations
 pub mod Heads
+pub mod Switches
