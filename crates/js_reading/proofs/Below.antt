@@ -60,7 +60,7 @@ pub fits : {t : Term} {d : ℕ} → Small d t → Fits d t
 fits f = record { depth_is = let h = f.depth_is in omega arith }
 
 module _ {d : ℕ} (below : Below d) where
-  expressions_below : {i : Bool} {es : List Term} {a b : Text} → Listed (spell.expression i) es a b → IsUtf8 a → Smalls d (all es) → ExpressionsRead i es a b
+  pub expressions_below : {i : Bool} {es : List Term} {a b : Text} → Listed (spell.expression i) es a b → IsUtf8 a → Smalls d (all es) → ExpressionsRead i es a b
   expressions_below (spell.last (spell.an_expression s)) u f = last_expression (below.stands s u (head_in f)) (stands_starts s u)
   expressions_below (spell.and (spell.an_expression s) tok rest) u f = let r = below.stands s u (head_in f) in let t = see_sign tok r.utf8 in and_expression r (stands_starts s u) t (expressions_below rest t.utf8 (tail_in f))
 

@@ -1,4 +1,4 @@
--- What is spelled as a module is read, and so a text spells one module at most, from what is read of the parts below.
+-- What is spelled as a module is read, and so a text spells one module at most.
 use Rattle.std.proofs.Common.{◌≡◌, ◌≤◌, ℕ, true, false, List, [], ◌∷◌, ◌++◌, Some, None, refl, sym, subst, ◌∙◌, ap}
 use Rattle.std.proofs.lemmas.Bool.{false≢true, or_parts}
 use Rattle.js_term.specs.Term.{Text, Term, absent, list, node, Terms, none, more, all, depth}
@@ -12,7 +12,6 @@ use Rattle.js_reading.specs.Reading.{Reading, at_end}
 use Rattle.js_reading.specs.Read.{read_body}
 use Rattle.js_reading.specs.Laws.{ReadBehind, Complete, Unique}
 use Rattle.js_reading.proofs.Each.{not_true}
-use Rattle.js_reading.proofs.ItemsThere.{Below}
 use Rattle.js_reading.proofs.ModulesThere.{IsReadModule, spells_read}
 
 -- ---- a text has one hashbang, or none
@@ -79,8 +78,8 @@ module_by hs (Some p) = module_of hs p.0.0 p.0.1
 
 -- ---- the laws
 
-pub complete : Below → Complete
-complete below = record { read = λ hs ds ss a u s fits. whole hs ds ss a (spells_read below s u) fits }
+pub complete : Complete
+complete = record { read = λ hs ds ss a u s fits. whole hs ds ss a (spells_read s u) fits }
   where
     whole : (hs : List Text) (ds ss : List Term) (a : Text) → IsReadModule (module_of hs ds ss) a → depth (module_of hs ds ss) ≤ 512 → ReadBehind hs ds ss a
     whole hs ds ss a r fits =
@@ -94,8 +93,8 @@ complete below = record { read = λ hs ds ss a u s fits. whole hs ds ss a (spell
           reads = r.reads fits ∙ rw (second, third);
         }
 
-pub unique : Below → Unique
-unique below = record { same = λ t t' a u s s' fits fits'. agree t t' a (spells_read below s u) (spells_read below s' u) fits fits' }
+pub unique : Unique
+unique = record { same = λ t t' a u s s' fits fits'. agree t t' a (spells_read s u) (spells_read s' u) fits fits' }
   where
     agree : (t t' : Term) (a : Text) → IsReadModule t a → IsReadModule t' a → depth t ≤ 512 → depth t' ≤ 512 → t ≡ t'
     agree t t' a r r' fits fits' =

@@ -19,8 +19,8 @@ use Rattle.js_reading.specs.Parts.{expression}
 use Rattle.js_reading.specs.Read.{read}
 use Rattle.js_reading.proofs.Listings.{IsReadExpression}
 use Rattle.js_reading.proofs.TokensEnd.{Ended, by_sign, by_stop, ended, end_lexeme, no_lexeme, lexeme_sees}
-use Rattle.js_reading.proofs.Lists.{is_end, sees_sign}
-use Rattle.js_reading.proofs.Follows.{holds, either_case, sign_row, tightness, tightness_by, takes_name, broken, Ends, is_full, is_updated, is_loose, end_holds, free_holds, is_access_at}
+use Rattle.js_reading.proofs.Lists.{is_end, sees_sign, ending_end}
+use Rattle.js_reading.proofs.Follows.{holds, either_case, sign_row, tightness, tightness_by, takes_name, broken, Ends, is_full, is_updated, is_loose, end_holds, free_holds, is_access_at, end_operand}
 
 -- nothing is taken on another line but by what goes on
 not_here : (a : Text) → same_line a ≡ false → takes_name a ≡ false
@@ -177,6 +177,22 @@ no_comma_behind x b ends h = go (sees (codes ",") b) refl
     go false e = e
     go true e = absurd (false≢true (sym h ∙ ap (goes_on_at x) (sees_sign (codes ",") b e) ∙ comma_goes x ends))
 
+at_end_operand : (b : Text) → at_end b ≡ true → ends_operand b ≡ true
+unfolding ends_operand
+at_end_operand b h = rw h (go (not (same_line b)) _ _ _ _ _ _)
+  where
+    go : (p r s t v w x : Bool) → (p || true || r || s || t || v || w || x) ≡ true
+    go true r s t v w x = refl
+    go false r s t v w x = refl
+
+-- where a semicolon stands or is left out, an operand ends
+pub ended_operand : {x : Edge} {b c : Text} → Ended x b c → ends_operand b ≡ true
+unfolding left_out
+ended_operand {b = b} (by_sign t) = end_operand b (ap is_end t.lexeme_is)
+ended_operand {b = b} (by_stop same st) = either_case (sees (codes "}") b || at_end b) _ st.left
+    (λ h. either_case (sees (codes "}") b) (at_end b) h (λ is. end_operand b (ending_end (codes "}") b refl is)) (λ is. at_end_operand b is))
+    (λ h. let (line, on) = and_parts (not (same_line b)) _ h in line_operand b (not-true _ line))
+
 -- nothing is left, or a brace closes
 end_behind : {n : ℕ} (x : Edge) (b : Text) → Ends n x → is_end (lexeme b) ≡ true → sees (codes ",") b ≡ false → Behind x b
 end_behind x b ends h h' = record { keeps = end_holds true x 1 b h; no_comma = h' }
@@ -188,14 +204,6 @@ none_tight b h = rw h (go (same_line b))
     go : (k : Bool) → tightness_by (false && k || k && (false || false)) false true 0 ≡ 0
     go true = refl
     go false = refl
-
-at_end_operand : (b : Text) → at_end b ≡ true → ends_operand b ≡ true
-unfolding ends_operand
-at_end_operand b h = rw h (go (not (same_line b)) _ _ _ _ _ _)
-  where
-    go : (p r s t v w x : Bool) → (p || true || r || s || t || v || w || x) ≡ true
-    go true r s t v w x = refl
-    go false r s t v w x = refl
 
 stop_behind : {n : ℕ} (x : Edge) (b : Text) → IsUtf8 b → Ends n x → left_out x b ≡ true → Behind x b
 unfolding left_out

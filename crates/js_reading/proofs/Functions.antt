@@ -2,7 +2,7 @@
 use Rattle.std.proofs.Common.{◌≡◌, ◌≤◌, ◌<◌, ℕ, zero, suc, Bool, true, false, not, ◌&&◌, List, [], ◌∷◌, ◌++◌, length, Option, Some, None, refl, sym, ◌∙◌, ap, append_assoc, append-nil, arith, codes}
 use Rattle.std.specs.Str.{IsUtf8}
 use Rattle.std.proofs.lemmas.Bool.{false≢true}
-use Rattle.js_term.specs.Term.{Text, Term, absent, all, depth, depths}
+use Rattle.js_term.specs.Term.{Text, Term, absent, all, depth, depths, is_text}
 use Rattle.js_term.specs.declared.kind.Kind.{Kind}
 use Rattle.js_term.specs.Lexeme.{is_reserved}
 use Rattle.js_term.specs.Node.{binding_of}
@@ -92,32 +92,21 @@ unfolding bound read
 bound_read x zero fits = absurd (let d = x.deep in omega arith)
 bound_read x (suc limit) fits = rw (x.reads limit fits)
 
--- no pattern begins with these signs
-dots_no_pattern : (limit : ℕ) (a : Text) → lexeme a ≡ Some (sign (codes "...")) → pattern (read limit) a ≡ None
+-- a pattern begins with a name, or with one of these signs
+sign_no_pattern : (sub : Goal → Text → Reading Found) (s a : Text) → lexeme a ≡ Some (sign s) → is_text s (codes "{") ≡ false → is_text s (codes "[") ≡ false → pattern sub a ≡ None
 unfolding pattern sees binding name
-dots_no_pattern limit a is = rw is
-
-close_no_pattern : (limit : ℕ) (a : Text) → lexeme a ≡ Some (sign (codes ")")) → pattern (read limit) a ≡ None
-unfolding pattern sees binding name
-close_no_pattern limit a is = rw is
+sign_no_pattern sub s a is h h' = rw (is, h, h')
 
 abbrev is_some : {A : Type 0} → Option A → Bool
 is_some None = false
 is_some (Some x) = true
 
-pub pattern_no_dots : {p : Term} {a b : Text} → IsReadPattern p a b → sees (codes "...") a ≡ false
-pattern_no_dots {p} {a} x = go (sees (codes "...") a) refl
+pub pattern_no_sign : {p : Term} {a b : Text} (s : Text) → IsReadPattern p a b → is_text s (codes "{") ≡ false → is_text s (codes "[") ≡ false → sees s a ≡ false
+pattern_no_sign {p} {a} s x h h' = go (sees s a) refl
   where
-    go : (v : Bool) → sees (codes "...") a ≡ v → sees (codes "...") a ≡ false
+    go : (v : Bool) → sees s a ≡ v → sees s a ≡ false
     go false is = is
-    go true is = absurd (false≢true (ap is_some (sym (dots_no_pattern (depth p) a (sees_sign (codes "...") a is)) ∙ x.reads (depth p) (omega arith))))
-
-pub pattern_no_close : {p : Term} {a b : Text} → IsReadPattern p a b → sees (codes ")") a ≡ false
-pattern_no_close {p} {a} x = go (sees (codes ")") a) refl
-  where
-    go : (v : Bool) → sees (codes ")") a ≡ v → sees (codes ")") a ≡ false
-    go false is = is
-    go true is = absurd (false≢true (ap is_some (sym (close_no_pattern (depth p) a (sees_sign (codes ")") a is)) ∙ x.reads (depth p) (omega arith))))
+    go true is = absurd (false≢true (ap is_some (sym (sign_no_pattern (read (depth p)) s a (sees_sign s a is) h h') ∙ x.reads (depth p) (omega arith))))
 
 -- ---- parameters
 
@@ -136,8 +125,8 @@ pub parameter_read : {p e : Term} {a b c : Text} → IsReadPattern p a b → IsR
 parameter_read x y = record {
   utf8 = y.utf8;
   shorter = let s1 = x.shorter in let s2 = y.short in omega arith;
-  no_dots = pattern_no_dots x;
-  no_close = pattern_no_close x;
+  no_dots = pattern_no_sign (codes "...") x refl refl;
+  no_close = pattern_no_sign (codes ")") x refl refl;
   reads = λ limit fits h. parameter_there x y limit fits h;
 }
 

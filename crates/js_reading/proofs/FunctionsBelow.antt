@@ -24,7 +24,7 @@ use Rattle.js_reading.proofs.Bodies.{body_text, directives_text_read}
 module _ {d : ℕ} (below : Below d) where
   -- ---- functions
 
-  pattern_bound : {p : Term} {a b : Text} → Pattern p a b → IsUtf8 a → Small d p → IsReadPattern p a b
+  pub pattern_bound : {p : Term} {a b : Text} → Pattern p a b → IsUtf8 a → Small d p → IsReadPattern p a b
   pattern_bound p u f = let r = below.pattern p u f in r.bound
 
   rest_below : {r : Term} {a b : Text} → Rest spell.parameter r a b → IsUtf8 a → Small d r → IsReadParameters [] r false a b

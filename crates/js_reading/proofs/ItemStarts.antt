@@ -9,7 +9,7 @@ use Rattle.js_reading.specs.Modules.{module_item}
 use Rattle.js_reading.specs.Read.{read}
 use Rattle.js_reading.proofs.TokensThere.{Seen, sees_word_by}
 use Rattle.js_reading.proofs.TokensEnd.{end_none, some_none, no_lexeme, seen_not_end}
-use Rattle.js_reading.proofs.StatementStarts.{starts, starts_no_word, Follows, starts_follow, token_follows}
+use Rattle.js_reading.proofs.StatementStarts.{end_follows, starts, starts_no_word, Follows, starts_follow, token_follows}
 
 -- What comes behind an item takes none of it.
 pub record ItemFollows (b : Text) : Type 0 where
@@ -23,14 +23,14 @@ pub import_follows : {a b : Text} → Seen (word (codes "import")) a b → ItemF
 import_follows {a} tok = statement_follows_item a (ap starts tok.lexeme_is)
 
 pub export_follows : {a b : Text} → Seen (word (codes "export")) a b → ItemFollows a
-export_follows tok = record { follows = token_follows tok refl refl; no_else = sees_word_by (codes "else") tok }
+export_follows tok = record { follows = token_follows tok refl; no_else = sees_word_by (codes "else") tok }
 
 no_word_at_end : (s a : Text) → lexeme a ≡ None → sees_word s a ≡ false
 unfolding sees_word
 no_word_at_end s a h = ap (is_word s) h
 
 pub end_follows_item : (a : Text) → at_end a ≡ true → ItemFollows a
-end_follows_item a h = let is = end_none a h in record { follows = record { no_comma = no_lexeme (codes ",") a is; no_equals = no_lexeme (codes "=") a is }; no_else = no_word_at_end (codes "else") a is }
+end_follows_item a h = let is = end_none a h in record { follows = end_follows a h; no_else = no_word_at_end (codes "else") a is }
 
 -- A module item is read before what takes none of it.
 pub record IsReadItem (s : Term) (a b : Text) : Type 0 where

@@ -1,4 +1,4 @@
--- Items of a module that are spelled in a text are read, from what is read of the parts below them.
+-- Items of a module that are spelled in a text are read.
 use Rattle.std.proofs.Common.{◌≡◌, ◌≤◌, ℕ, zero, suc, Bool, true, false, ◌||◌, List, [], length, Option, Some, None, refl, sym, subst, ◌∙◌, ap, arith, codes}
 use Rattle.std.specs.Str.{IsUtf8}
 use Rattle.std.proofs.lemmas.Bool.{false≢true, and_left}
@@ -22,6 +22,7 @@ use Rattle.js_reading.specs.Expressions.{import_expression, prefix, at_level}
 use Rattle.js_reading.specs.Statements.{inner, ended, effect, plain_statement, word_statement, statement}
 use Rattle.js_reading.specs.Modules.{import_by, item_by, module_item}
 use Rattle.js_reading.specs.Read.{read}
+use Rattle.js_reading.proofs.Knot.{stands_read, statement_read, function_read, class_read}
 use Rattle.js_reading.proofs.TokensThere.{Seen, see, see_sign, see_word}
 use Rattle.js_reading.proofs.TokensEnd.{ended as ends_so, semicolon_utf8, semicolon_short}
 use Rattle.js_reading.proofs.Joining.{stands_joined}
@@ -35,13 +36,6 @@ use Rattle.js_reading.proofs.ExportsRead.{LocalListRead, local_list_read, Indire
 use Rattle.js_reading.proofs.ImportsRead.{bare_import_item, import_from_item, export_all_item, export_all_as_item, export_from_item, export_named_item}
 use Rattle.js_reading.proofs.ItemStarts.{ItemFollows, statement_follows_item, import_follows, export_follows, IsReadItem, word_item}
 use Rattle.js_reading.proofs.Exported.{export_declaration_item, IsReadDefault, function_default, class_default, expression_default, export_default_item}
-
--- what is read of the parts below the items of a module
-pub record Below : Type 0 where
-  pub stands_read : {n : ℕ} {e : Term} {a b : Text} → Stands true n e a b → IsUtf8 a → StandsRead true n e a b
-  pub function_text_read : {k : Kind} {f : Term} {a b : Text} → FunctionText k f a b → IsUtf8 a → IsReadFunction k f a b
-  pub class_text_read : {k : Kind} {c : Term} {a b : Text} → ClassText k c a b → IsUtf8 a → IsReadClass k c a b
-  pub statement_read : {s : Term} {a b : Text} → Statement s a b → IsUtf8 a → IsReadStatement s a b
 
 -- ---- a statement that begins with `import`
 
@@ -162,33 +156,32 @@ export_named_read tok open' r close' end =
 
 -- ---- items by their derivations
 
-module _ (below : Below) where
-  default_read : {d : Term} {a b : Text} → Default d a b → IsUtf8 a → IsReadDefault d a b
-  default_read (module'.default_function f) u = function_default (below.function_text_read f u)
-  default_read (module'.default_class c) u = class_default (below.class_text_read c u)
-  default_read (module'.default_expression free e end) u = expression_default free (stands_joined e u) (below.stands_read e u) end
+default_read : {d : Term} {a b : Text} → Default d a b → IsUtf8 a → IsReadDefault d a b
+default_read (module'.default_function f) u = function_default (function_read f u)
+default_read (module'.default_class c) u = class_default (class_read c u)
+default_read (module'.default_expression free e end) u = expression_default free (stands_joined e u) (stands_read e u) end
 
-  pub module_item_read : {s : Term} {a b : Text} → ModuleItem s a b → IsUtf8 a → IsReadItem s a b
-  module_item_read (module'.statement s) u = statement_item (below.statement_read s u)
-  module_item_read (module'.bare_import tok x end) u = let t = see_word tok u in bare_import_read t (see x t.utf8 refl) end
-  module_item_read (module'.import_from tok clause f end) u = let t = see_word tok u in let r = import_clause_read clause t.utf8 in import_from_read t clause (from_text_read f r.utf8) end
-  module_item_read (module'.export_all tok star f end) u = let t = see_word tok u in let x = see_sign star t.utf8 in export_all_read t x (from_text_read f x.utf8) end
-  module_item_read (module'.export_all_as tok star as' m f end) u =
-      let t = see_word tok u in
-      let x = see_sign star t.utf8 in
-      let y = see_word as' x.utf8 in
-      let n = export_name_read m y.utf8 in
-      export_all_as_read t x y n (from_text_read f (name_at_utf8 n.at)) end
-  module_item_read (module'.export_named tok (module'.braced open' l close') end) u =
-      let t = see_word tok u in
-      let x = see_sign open' t.utf8 in
-      let r = local_list_read l x.utf8 in
-      export_named_read t x r (see_sign close' r.utf8) end
-  module_item_read (module'.export_from tok (module'.braced open' l close') f end) u =
-      let t = see_word tok u in
-      let x = see_sign open' t.utf8 in
-      let r = indirect_list_read l x.utf8 in
-      let y = see_sign close' r.utf8 in
-      export_from_read t x r y (from_text_read f y.utf8) end
-  module_item_read (module'.export_declaration tok d) u = let t = see_word tok u in export_declaration_item t d (below.statement_read (spell.declaration d) t.utf8)
-  module_item_read (module'.export_default tok tok' d) u = let t = see_word tok u in let x = see_word tok' t.utf8 in export_default_item t x (default_read d x.utf8)
+pub module_item_read : {s : Term} {a b : Text} → ModuleItem s a b → IsUtf8 a → IsReadItem s a b
+module_item_read (module'.statement s) u = statement_item (statement_read s u)
+module_item_read (module'.bare_import tok x end) u = let t = see_word tok u in bare_import_read t (see x t.utf8 refl) end
+module_item_read (module'.import_from tok clause f end) u = let t = see_word tok u in let r = import_clause_read clause t.utf8 in import_from_read t clause (from_text_read f r.utf8) end
+module_item_read (module'.export_all tok star f end) u = let t = see_word tok u in let x = see_sign star t.utf8 in export_all_read t x (from_text_read f x.utf8) end
+module_item_read (module'.export_all_as tok star as' m f end) u =
+    let t = see_word tok u in
+    let x = see_sign star t.utf8 in
+    let y = see_word as' x.utf8 in
+    let n = export_name_read m y.utf8 in
+    export_all_as_read t x y n (from_text_read f (name_at_utf8 n.at)) end
+module_item_read (module'.export_named tok (module'.braced open' l close') end) u =
+    let t = see_word tok u in
+    let x = see_sign open' t.utf8 in
+    let r = local_list_read l x.utf8 in
+    export_named_read t x r (see_sign close' r.utf8) end
+module_item_read (module'.export_from tok (module'.braced open' l close') f end) u =
+    let t = see_word tok u in
+    let x = see_sign open' t.utf8 in
+    let r = indirect_list_read l x.utf8 in
+    let y = see_sign close' r.utf8 in
+    export_from_read t x r y (from_text_read f y.utf8) end
+module_item_read (module'.export_declaration tok d) u = let t = see_word tok u in export_declaration_item t d (statement_read (spell.declaration d) t.utf8)
+module_item_read (module'.export_default tok tok' d) u = let t = see_word tok u in let x = see_word tok' t.utf8 in export_default_item t x (default_read d x.utf8)

@@ -57,7 +57,7 @@ labelled_jump : (sub : Goal → Text → Reading Found) (k : Kind) {x a b c : Te
 unfolding jump label
 labelled_jump sub k free line x end = rw (name_goes_on line x, binding_read free x, semicolon_read end x.utf8)
 
-pub jump_read : (sub : Goal → Text → Reading Found) (k : Kind) {l : Term} {a b c : Text} → IsUtf8 a → Label l a b → Semicolon plain b c → jump sub k a ≡ Some (of_part k l, c)
+jump_read : (sub : Goal → Text → Reading Found) (k : Kind) {l : Term} {a b c : Text} → IsUtf8 a → Label l a b → Semicolon plain b c → jump sub k a ≡ Some (of_part k l, c)
 jump_read sub k u spell.no_label end = bare_jump sub k u end
 jump_read sub k {a = a} u (spell.a_label free line tok) end = labelled_jump sub k free (on_line a line) (see_word tok u) end
 

@@ -69,3 +69,9 @@ pub mod ModulesThere
 pub mod Complete
 pub mod StatementsBelow
 pub mod FunctionsBelow
+pub mod Effects
+pub mod Declarations
+pub mod Heads
+pub mod Switches
+pub mod StatementsAt
+pub mod Knot

@@ -23,7 +23,7 @@ use Rattle.js_reading.proofs.Functions.{IsReadDirectives}
 use Rattle.js_reading.proofs.Bodies.{DirectiveThere, no_directive_by, directives_text_read}
 use Rattle.js_reading.proofs.ItemsRead.{ItemsRead, no_item_read, next_item_read, module_items_read}
 use Rattle.js_reading.proofs.ItemStarts.{ItemFollows, end_follows_item, IsReadItem}
-use Rattle.js_reading.proofs.ItemsThere.{Below, module_item_read}
+use Rattle.js_reading.proofs.ItemsThere.{module_item_read}
 
 -- ---- items up to the end
 
@@ -89,24 +89,23 @@ directives_token : {ds : List Term} {a b : Text} → Directives ds a b → IsUtf
 directives_token spell.no_directives u h = h
 directives_token (spell.directive tok end rest) u h = λ e. let x = see tok u refl in absurd (some_none _ (sym e ∙ x.lexeme_is))
 
-module _ (below : Below) where
-  module_items_there : {ss : List Term} {a b : Text} → ModuleItems ss a b → IsUtf8 a → at_end b ≡ true → IsReadItems ss a b
-  module_items_there module'.no_more_items u end = no_items_read end
-  module_items_there (module'.next_item s rest) u end = let r = module_item_read below s u in next_item r (module_items_there rest r.utf8 end)
+module_items_there : {ss : List Term} {a b : Text} → ModuleItems ss a b → IsUtf8 a → at_end b ≡ true → IsReadItems ss a b
+module_items_there module'.no_more_items u end = no_items_read end
+module_items_there (module'.next_item s rest) u end = let r = module_item_read s u in next_item r (module_items_there rest r.utf8 end)
 
-  pub spells_read : {t : Term} {a : Text} → Spells a t → IsUtf8 a → IsReadModule t a
-  spells_read (module'.spells {hs} {ds} {ss} {b = b} {d = d} free bang directives items end) u =
-      let v = hashbang_utf8 bang u in
-      let x = directives_text_read directives v in
-      let r = module_items_there items x.utf8 (at_its_end d end) in
-      record {
-        hashbang = hs;
-        directives = ds;
-        statements = ss;
-        behind = b;
-        rest = d;
-        whole = refl;
-        opened = bang;
-        token = directives_token directives v r.token;
-        reads = λ fits. module_read x.utf8 x r (at_its_end d end) free (omega arith);
-      }
+pub spells_read : {t : Term} {a : Text} → Spells a t → IsUtf8 a → IsReadModule t a
+spells_read (module'.spells {hs} {ds} {ss} {b = b} {d = d} free bang directives items end) u =
+    let v = hashbang_utf8 bang u in
+    let x = directives_text_read directives v in
+    let r = module_items_there items x.utf8 (at_its_end d end) in
+    record {
+      hashbang = hs;
+      directives = ds;
+      statements = ss;
+      behind = b;
+      rest = d;
+      whole = refl;
+      opened = bang;
+      token = directives_token directives v r.token;
+      reads = λ fits. module_read x.utf8 x r (at_its_end d end) free (omega arith);
+    }

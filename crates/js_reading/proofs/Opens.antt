@@ -280,7 +280,7 @@ sign_among s (Some (template_head x)) h other = refl
 sign_among s (Some (template_middle x)) h other = refl
 sign_among s (Some (template_tail x)) h other = refl
 
-word_among : (x : Text) (o : Option Lexeme) → begins o ≡ true → begins_by (word x) ≡ false → is_word x o ≡ false
+pub word_among : (x : Text) (o : Option Lexeme) → begins o ≡ true → begins_by (word x) ≡ false → is_word x o ≡ false
 word_among x None h other = refl
 word_among x (Some (word y)) h other = go (is_text y x) refl
   where

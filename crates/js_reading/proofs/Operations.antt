@@ -12,7 +12,7 @@ use Rattle.js_syntax.specs.Tokens.{word, sign, signs, Lexed, is_punctuator, Sign
 use Rattle.js_syntax.specs.Edges.{edge, is_update, is_word_operator, is_coalesce_left, member_level, operator_levels, binary_level}
 use Rattle.js_syntax.specs.Spelling as spell
 use Rattle.js_syntax.proofs.Fronts.{among}
-use Rattle.js_tokens.specs.Next.{lexeme}
+use Rattle.js_tokens.specs.Next.{lexeme, after}
 use Rattle.js_reading.specs.declared.goal.Goal.{Goal}
 use Rattle.js_reading.specs.Reading.{Found, closed, Reading, sees, sees_word, same_line, arrow_here}
 use Rattle.js_reading.specs.Operators.{sign_binds, word_binds, sign_gives, sign_needs}
@@ -167,17 +167,18 @@ sign_binary_read {i} {k} {m} {n} {op} {l} {p = p} {b = b} {c = c} is h h' left t
 
 -- ---- the operators that are words
 
-word_takes : (op b : Text) → lexeme b ≡ Some (word op) → is_text op (codes "function") ≡ false → is_reserved op ≡ true → takes_name b ≡ false
+-- a word that is no parameter takes no name
+word_takes : (op b : Text) → lexeme b ≡ Some (word op) → is_text op (codes "function") ≡ false → (not (is_reserved op) && arrow_here (after b)) ≡ false → takes_name b ≡ false
 unfolding takes_name arrow_here sees sees_word
-word_takes op b is other free = rw (is, free, other) (go (same_line b))
+word_takes op b is other calm = rw (is, calm, other) (go (same_line b))
   where
     go : (line : Bool) → (line && false) ≡ false
     go true = refl
     go false = refl
 
-word_tight : (i : Bool) (op : Text) {b c : Text} → Seen (word op) b c → is_text op (codes "function") ≡ false → is_reserved op ≡ true → tightness i b ≡ word_binds i op
+pub word_tight : (i : Bool) (op : Text) {b c : Text} → Seen (word op) b c → is_text op (codes "function") ≡ false → (not (is_reserved op) && arrow_here (after b)) ≡ false → tightness i b ≡ word_binds i op
 unfolding tightness
-word_tight i op {b} tok other free = rw (word_takes op b tok.lexeme_is other free, tok.lexeme_is)
+word_tight i op {b} tok other calm = rw (word_takes op b tok.lexeme_is other calm, tok.lexeme_is)
 
 word_joins : {i : Bool} {m : ℕ} (op : Text) {b c : Text} → Seen (word op) b c → is_text op (codes "function") ≡ false → is_reserved op ≡ true → word_binds i op ≡ 11 → 11 ≤ m → Joins i m 11 11 b
 word_joins {i} {m} op {b} tok other free eleven h = record {
@@ -185,7 +186,7 @@ word_joins {i} {m} op {b} tok other free eleven h = record {
   gives_is = rw (tok.lexeme_is) eleven;
   needs_low = rw (tok.lexeme_is, eleven) h;
   suit = rw (tok.lexeme_is);
-  tight = let t = word_tight i op tok other free in omega arith;
+  tight = let t = word_tight i op tok other (rw free refl) in omega arith;
 }
 
 word_binary_read : {i : Bool} {m n : ℕ} (op : Text) {l r : Term} {p q : Bool} {a b c d : Text} → is_text op (codes "function") ≡ false → is_reserved op ≡ true → word_binds i op ≡ 11 → binary_level op ≡ Some 11 → 11 ≤ m → 12 ≤ n → IsRead i (depth l) (whole l m p) a b → Seen (word op) b c → IsRead i (depth r) (whole r n q) c d → IsRead i (depth (marked Kind.BinaryExpression op (two l r))) (closed (marked Kind.BinaryExpression op (two l r)) 11) a d

@@ -1,18 +1,20 @@
 -- With what the text of a statement begins, and what may follow one.
-use Rattle.std.proofs.Common.{◌≡◌, ◌≤◌, ◌<◌, ℕ, suc, Bool, true, false, ◌&&◌, ◌||◌, List, [], ◌∷◌, length, map, Option, Some, None, refl, sym, ◌∙◌, ap, codes}
+use Rattle.std.proofs.Common.{◌≡◌, ◌≤◌, ◌<◌, ℕ, suc, Bool, true, false, ◌&&◌, ◌||◌, List, [], ◌∷◌, length, map, Option, Some, None, refl, sym, ◌∙◌, ap, codes, subst}
 use Rattle.std.specs.Str.{IsUtf8}
-use Rattle.std.proofs.lemmas.Bool.{false≢true}
+use Rattle.std.proofs.lemmas.Bool.{false≢true, or_parts}
 use Rattle.js_term.specs.Term.{Text, is_text, Term, depth}
 use Rattle.js_term.specs.Lexeme.{is_one_of}
 use Rattle.js_syntax.specs.Printable.{ends_open}
+use Rattle.js_syntax.specs.Spelling.{Semicolon}
+use Rattle.js_syntax.specs.Edges.{Edge}
 use Rattle.js_syntax.specs.Tokens.{Lexeme, word, private_name, number, big_integer, string, no_substitution, template_head, sign, regexp, template_middle, template_tail}
 use Rattle.js_tokens.specs.Next.{lexeme}
-use Rattle.js_reading.specs.Reading.{is_sign, sees, sees_word, at_end}
+use Rattle.js_reading.specs.Reading.{is_sign, is_word, sees, sees_word, at_end}
 use Rattle.js_reading.specs.Statements.{statement}
 use Rattle.js_reading.specs.Read.{read}
 use Rattle.js_reading.proofs.Each.{no_sign_by, no_word_by, is_end as at_its_end}
-use Rattle.js_reading.proofs.TokensThere.{Seen, sees_by}
-use Rattle.js_reading.proofs.TokensEnd.{end_lexeme}
+use Rattle.js_reading.proofs.TokensThere.{Seen}
+use Rattle.js_reading.proofs.TokensEnd.{end_lexeme, Ended, by_sign, by_stop, ended}
 use Rattle.js_reading.proofs.Opens.{begins, begins_by}
 
 -- the words that begin a statement and no expression
@@ -65,17 +67,46 @@ begins_starts (Some (template_head x)) h = h
 begins_starts (Some (template_middle x)) h = h
 begins_starts (Some (template_tail x)) h = h
 
--- What comes behind a statement goes on with no declaration.
+-- What comes behind a statement goes on with none: with no declaration, no label, and no `try`.
 pub record Follows (b : Text) : Type 0 where
   pub no_comma : sees (codes ",") b ≡ false
   pub no_equals : sees (codes "=") b ≡ false
+  pub no_colon : sees (codes ":") b ≡ false
+  pub no_finally : sees_word (codes "finally") b ≡ false
 
 pub starts_follow : (b : Text) → starts (lexeme b) ≡ true → Follows b
-starts_follow b h = record { no_comma = starts_no_sign (codes ",") b h refl; no_equals = starts_no_sign (codes "=") b h refl }
+starts_follow b h = record {
+  no_comma = starts_no_sign (codes ",") b h refl;
+  no_equals = starts_no_sign (codes "=") b h refl;
+  no_colon = starts_no_sign (codes ":") b h refl;
+  no_finally = starts_no_word (codes "finally") b h refl;
+}
 
--- a token other than these
-pub token_follows : {l : Lexeme} {b c : Text} → Seen l b c → is_sign (codes ",") (Some l) ≡ false → is_sign (codes "=") (Some l) ≡ false → Follows b
-token_follows x h h' = record { no_comma = sees_by (codes ",") x ∙ h; no_equals = sees_by (codes "=") x ∙ h' }
+-- a token other than these, or none
+abbrev pub goes_behind : Option Lexeme → Bool
+goes_behind o = is_sign (codes ",") o || (is_sign (codes "=") o || (is_sign (codes ":") o || is_word (codes "finally") o))
+
+pub behind_follows : (b : Text) → goes_behind (lexeme b) ≡ false → Follows b
+unfolding sees sees_word
+behind_follows b h =
+    let (comma, h1) = or_parts (is_sign (codes ",") (lexeme b)) _ h in
+    let (equals, h2) = or_parts (is_sign (codes "=") (lexeme b)) _ h1 in
+    let (colon, finally) = or_parts (is_sign (codes ":") (lexeme b)) _ h2 in
+    record { no_comma = comma; no_equals = equals; no_colon = colon; no_finally = finally }
+
+pub token_follows : {l : Lexeme} {b c : Text} → Seen l b c → goes_behind (Some l) ≡ false → Follows b
+token_follows {b = b} x h = behind_follows b (ap goes_behind x.lexeme_is ∙ h)
+
+pub end_follows : (b : Text) → at_end b ≡ true → Follows b
+end_follows b h = behind_follows b (ap goes_behind (end_lexeme b (at_its_end b h)))
+
+-- where a semicolon is left out, the statement ends
+pub semicolon_follows : {x : Edge} {b c : Text} → Semicolon x b c → IsUtf8 b → Follows c → Follows b
+semicolon_follows {x} {b} {c} end u w = go (ended end u)
+  where
+    go : Ended x b c → Follows b
+    go (by_sign t) = token_follows t refl
+    go (by_stop same st) = subst Follows (sym same) w
 
 -- A statement is read before what goes on with none, and before no `else` where it ends in an `if` without one.
 pub record IsReadStatement (s : Term) (a b : Text) : Type 0 where

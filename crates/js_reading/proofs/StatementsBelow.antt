@@ -8,12 +8,9 @@ use Rattle.js_reading.proofs.Claims.{IsReadStatements}
 use Rattle.js_reading.proofs.StatementsThere.{StatementsFollow, no_statements_read, next_statement_read}
 use Rattle.js_reading.proofs.Below.{Smalls, Below, head_in, tail_in}
 
-no_statements_follow : {a : Text} → IsUtf8 a → StatementsFollow [] a a
-no_statements_follow u = record { read = no_statements_read u; calm = λ h. h; follows = λ h. h }
-
 module _ {d : ℕ} (below : Below d) where
   pub statements_follow : {ss : List Term} {a b : Text} → Statements ss a b → IsUtf8 a → Smalls d (all ss) → StatementsFollow ss a b
-  statements_follow spell.no_statements u f = no_statements_follow u
+  statements_follow spell.no_statements u f = no_statements_read u
   statements_follow (spell.next_statement s rest) u f = let r = below.statement s u (head_in f) in next_statement_read r (statements_follow rest r.utf8 (tail_in f))
 
   pub statements_below : {ss : List Term} {a b : Text} → Statements ss a b → IsUtf8 a → Smalls d (all ss) → IsReadStatements ss a b

@@ -6,26 +6,26 @@ use Rattle.js_term.specs.declared.kind.Kind.{Kind}
 use Rattle.js_term.specs.Node.{return_of}
 use Rattle.js_syntax.specs.Nodes.{alone, of_part, of_parts, block_of, if_of}
 use Rattle.js_syntax.specs.Printable.{ends_open}
-use Rattle.js_syntax.specs.Tokens.{word, sign}
+use Rattle.js_syntax.specs.Tokens.{word, sign, Lexeme}
 use Rattle.js_syntax.specs.Edges.{plain, edge, is_body}
 use Rattle.js_syntax.specs.Spelling.{Semicolon, DoEnd, Label}
 use Rattle.js_tokens.specs.Next.{lexeme}
 use Rattle.js_reading.specs.declared.goal.Goal.{Goal}
 use Rattle.js_reading.specs.declared.goal.Goal.TheVariants as goal
-use Rattle.js_reading.specs.Reading.{Found, closed, Reading, sees, sees_word, same_line, left_out}
-use Rattle.js_reading.specs.Functions.{statements, enclosed}
+use Rattle.js_reading.specs.Reading.{Found, closed, Reading, sees, sees_word, same_line, left_out, is_word}
+use Rattle.js_reading.specs.Functions.{statements}
 use Rattle.js_reading.specs.Statements.{inner, embedded, condition, block, ended, return_statement, throw_statement, ends_here, alternate, if_statement, while_statement, do_statement, word_statement, statement}
 use Rattle.js_reading.specs.Read.{read}
-use Rattle.js_reading.proofs.TokensThere.{Seen, sees_by, sees_word_by, expect_read, expect_word_read}
+use Rattle.js_reading.proofs.TokensThere.{Seen, sees_by, sees_word_by, expect_read, expect_word_read, see_sign}
 use Rattle.js_reading.proofs.TokensEnd.{semicolon_utf8, semicolon_short, do_end_read, do_end_utf8, do_end_short}
-use Rattle.js_tokens.proofs.Shorter.{token_shorter}
 use Rattle.js_reading.proofs.Each.{seen}
-use Rattle.js_reading.proofs.Lists.{is_end, sees_sign}
+use Rattle.js_reading.proofs.Lists.{is_end}
 use Rattle.js_reading.proofs.Listings.{IsReadExpression, expression_before}
 use Rattle.js_reading.proofs.Claims.{IsReadStatements}
+use Rattle.js_reading.proofs.Functions.{closed_statements}
 use Rattle.js_reading.proofs.Jumping as jumping
 use Rattle.js_reading.proofs.Opens.{begins, no_sign_there}
-use Rattle.js_reading.proofs.StatementStarts.{starts, begins_starts, starts_no_end, starts_no_sign, starts_no_word, Follows, starts_follow, token_follows, IsReadStatement}
+use Rattle.js_reading.proofs.StatementStarts.{starts, begins_starts, starts_no_end, starts_no_sign, starts_no_word, Follows, starts_follow, token_follows, IsReadStatement, goes_behind}
 
 -- ---- a statement as a part
 
@@ -42,7 +42,10 @@ pub record IsReadEmbedded (s : Term) (a b : Text) : Type 0 where
   pub body : is_body s ≡ true
   pub read : IsReadStatement s a b
 
-embedded_reads : {s : Term} {a b : Text} (limit : ℕ) → IsReadEmbedded s a b → depth s ≤ limit → Follows b → (sees_word (codes "else") b && ends_open s) ≡ false → embedded (read limit) a ≡ Some (s, b)
+pub embedded_read : {s : Term} {a b : Text} → is_body s ≡ true → IsReadStatement s a b → IsReadEmbedded s a b
+embedded_read h r = record { body = h; read = r }
+
+pub embedded_reads : {s : Term} {a b : Text} (limit : ℕ) → IsReadEmbedded s a b → depth s ≤ limit → Follows b → (sees_word (codes "else") b && ends_open s) ≡ false → embedded (read limit) a ≡ Some (s, b)
 unfolding embedded
 embedded_reads limit r fits w h = rw (statement_part r.read limit fits w h, r.body)
 
@@ -53,7 +56,7 @@ condition_reads limit open' x close fits = rw (expect_read open', expression_bef
 
 -- ---- by the first token
 
-word_there : {x : Text} (sub : Goal → Text → Reading Found) {a b : Text} → Seen (word x) a b → statement sub a ≡ word_statement sub x a
+pub word_there : {x : Text} (sub : Goal → Text → Reading Found) {a b : Text} → Seen (word x) a b → statement sub a ≡ word_statement sub x a
 unfolding statement
 word_there sub t = rw (t.lexeme_is)
 
@@ -76,68 +79,99 @@ debugger_read t end = record { utf8 = semicolon_utf8 end t.utf8; shorter = let s
 
 -- ---- blocks
 
-enclosed_reads : {ss : List Term} {a b c : Text} (limit : ℕ) → IsReadStatements ss a b → Seen (sign (codes "}")) b c → depths (all ss) ≤ limit → enclosed (read limit) a ≡ Some (ss, c)
-unfolding enclosed
-enclosed_reads {a = a} limit r close fits = rw (r.reads limit (length a) [] fits (omega arith) (sees_by (codes "}") close), expect_read close)
-
 block_reads : {ss : List Term} {a b c d : Text} (limit : ℕ) → Seen (sign (codes "{")) a b → IsReadStatements ss b c → Seen (sign (codes "}")) c d → depths (all ss) ≤ limit → block (read limit) a ≡ Some (block_of ss, d)
 unfolding block
-block_reads limit open' r close fits = rw (expect_read open', enclosed_reads limit r close fits)
+block_reads limit open' r close fits = rw (expect_read open', closed_statements r close limit fits)
 
-block_there : {ss : List Term} {a b c d : Text} (limit : ℕ) → Seen (sign (codes "{")) a b → IsReadStatements ss b c → Seen (sign (codes "}")) c d → depths (all ss) ≤ limit → statement (read limit) a ≡ Some (block_of ss, d)
-unfolding statement
-block_there limit open' r close fits = rw (open'.lexeme_is, block_reads limit open' r close fits)
+pub record IsReadBlock (s : Term) (a b : Text) : Type 0 where
+  pub utf8 : IsUtf8 b
+  pub shorter : length b < length a
+  pub deep : 0 < depth s
+  pub opens : lexeme a ≡ Some (sign (codes "{"))
+  pub reads : (limit : ℕ) → depth s ≤ suc limit → block (read limit) a ≡ Some (s, b)
 
-pub block_read : {ss : List Term} {a b c d : Text} → Seen (sign (codes "{")) a b → IsReadStatements ss b c → Seen (sign (codes "}")) c d → IsReadStatement (block_of ss) a d
+pub block_read : {ss : List Term} {a b c d : Text} → Seen (sign (codes "{")) a b → IsReadStatements ss b c → Seen (sign (codes "}")) c d → IsReadBlock (block_of ss) a d
 block_read open' r close = record {
   utf8 = close.utf8;
   shorter = let s = open'.shorter in let k = r.short in let z = close.shorter in omega arith;
-  begun = ap starts open'.lexeme_is;
   deep = omega arith;
-  reads = λ limit fits w h. block_there limit open' r close (omega arith);
+  opens = open'.lexeme_is;
+  reads = λ limit fits. block_reads limit open' r close (omega arith);
 }
+
+block_there : {s : Term} {a b : Text} (limit : ℕ) → IsReadBlock s a b → depth s ≤ suc limit → statement (read limit) a ≡ Some (s, b)
+unfolding statement
+block_there limit x fits = rw x.opens (x.reads limit fits)
+
+pub block_statement_read : {s : Term} {a b : Text} → IsReadBlock s a b → IsReadStatement s a b
+block_statement_read x = record { utf8 = x.utf8; shorter = x.shorter; begun = ap starts x.opens; deep = x.deep; reads = λ limit fits w h. block_there limit x fits }
 
 -- ---- lists of statements
 
-none_reads : {a : Text} (limit n : ℕ) (found : List Term) → sees (codes "}") a ≡ true → length a ≤ n → 0 < length a → statements (read limit) n found a ≡ Some (found ++ [], a)
+-- what reads statements up to where a list of them ends
+pub record ReadsList (limit : ℕ) (ends : Text → Bool) (reader : ℕ → List Term → Text → Reading (List Term)) : Type 0 where
+  pub stops : (n : ℕ) (found : List Term) (a : Text) → ends a ≡ true → reader (suc n) found a ≡ Some (found, a)
+  pub goes : (n : ℕ) (found : List Term) (s : Term) (a b : Text) → ends a ≡ false → read limit goal.Statement a ≡ Some (closed s 0, b) → reader (suc n) found a ≡ reader n (found ++ s ∷ []) b
+  pub apart : (a : Text) → starts (lexeme a) ≡ true → ends a ≡ false
+
+-- where one ends, something is left that goes on with no statement
+pub record Closes (b : Text) : Type 0 where
+  pub some : 0 < length b
+  pub follows : Follows b
+  pub no_else : sees_word (codes "else") b ≡ false
+
+pub token_closes : {l : Lexeme} {b c : Text} → Seen l b c → goes_behind (Some l) ≡ false → is_word (codes "else") (Some l) ≡ false → Closes b
+token_closes t h h' = record { some = let s = t.shorter in omega arith; follows = token_follows t h; no_else = sees_word_by (codes "else") t ∙ h' }
+
+-- up to the brace
+braced_list : (limit : ℕ) → ReadsList limit (sees (codes "}")) (statements (read limit))
 unfolding statements
-none_reads limit zero found is enough some = absurd (omega arith)
-none_reads limit (suc n) found is enough some = rw (is, append-nil found)
+braced_list limit = record {
+  stops = λ n found a h. rw h;
+  goes = λ n found s a b h part. rw (h, part);
+  apart = λ a h. starts_no_sign (codes "}") a h refl;
+}
 
-seen_shorter : (s a : Text) → sees s a ≡ true → IsUtf8 a → 0 < length a
-seen_shorter s a is u = let t = (seen s a u is).token in let k = token_shorter t in omega arith
+pub brace_closes : (b : Text) → IsUtf8 b → sees (codes "}") b ≡ true → Closes b
+brace_closes b u h = token_closes (see_sign (seen (codes "}") b u h).token u) refl refl
 
-pub no_statements_read : {a : Text} → IsUtf8 a → IsReadStatements [] a a
-no_statements_read {a} u = record { utf8 = u; short = omega arith; reads = λ limit n found fits enough is. none_reads limit n found is enough (seen_shorter (codes "}") a is u) }
+-- statements are read, whatever ends the list of them
+abbrev pub IsListed : List Term → Text → Text → Type 0
+IsListed ss a b =
+    (limit n : ℕ) (found : List Term) (ends : Text → Bool) (reader : ℕ → List Term → Text → Reading (List Term)) → ReadsList limit ends reader → depths (all ss) ≤ limit → length a ≤ n → Closes b → ends b ≡ true → reader n found a ≡ Some (found ++ ss, b)
 
 -- statements behind which nothing goes on with them
 pub record StatementsFollow (ss : List Term) (a b : Text) : Type 0 where
   pub read : IsReadStatements ss a b
   pub calm : sees_word (codes "else") b ≡ false → sees_word (codes "else") a ≡ false
   pub follows : Follows b → Follows a
+  pub listed : IsListed ss a b
 
-brace_follows : (b : Text) → sees (codes "}") b ≡ true → Follows b × (sees_word (codes "else") b ≡ false)
-unfolding sees sees_word
-brace_follows b is = let l = sees_sign (codes "}") b is in (record { no_comma = rw l refl; no_equals = rw l refl }, rw l refl)
+braced : {ss : List Term} {a b : Text} → IsUtf8 b → length b ≤ length a → IsListed ss a b → IsReadStatements ss a b
+braced {b = b} u short listed = record { utf8 = u; short = short; reads = λ limit n found fits enough is. listed limit n found (sees (codes "}")) (statements (read limit)) (braced_list limit) fits enough (brace_closes b u is) is }
 
-next_reads : {s : Term} {ss : List Term} {a b c : Text} (limit n : ℕ) (found : List Term) → IsReadStatement s a b → StatementsFollow ss b c → depths (all (s ∷ ss)) ≤ limit → length a ≤ n → sees (codes "}") c ≡ true → statements (read limit) n found a ≡ Some (found ++ s ∷ ss, c)
-unfolding statements
-next_reads limit zero found r rest fits enough is = absurd (let s = r.shorter in omega arith)
-next_reads {s} {ss} {a} {b} {c} limit (suc n) found r rest fits enough is =
+none_listed : {a : Text} → IsListed [] a a
+none_listed {a} limit zero found ends reader by fits enough closes is = absurd (let s = closes.some in omega arith)
+none_listed {a} limit (suc n) found ends reader by fits enough closes is = by.stops n found a is ∙ ap (λ ss. Some (ss, a)) (sym (append-nil found))
+
+pub no_statements_read : {a : Text} → IsUtf8 a → StatementsFollow [] a a
+no_statements_read u = record { read = braced u (omega arith) none_listed; calm = λ h. h; follows = λ h. h; listed = none_listed }
+
+next_listed : {s : Term} {ss : List Term} {a b c : Text} → IsReadStatement s a b → StatementsFollow ss b c → IsListed (s ∷ ss) a c
+next_listed r rest limit zero found ends reader by fits enough closes is = absurd (let s = r.shorter in omega arith)
+next_listed {s} {ss} {a} {b} {c} r rest limit (suc n) found ends reader by fits enough closes is =
     let s1 = r.shorter in
-    let (w, calm) = brace_follows c is in
-    let part = statement_goal r limit (omega arith) (rest.follows w) (no_both (sees_word (codes "else") b) (ends_open s) (rest.calm calm)) in
-    rw (starts_no_sign (codes "}") a r.begun refl, part, rest.read.reads limit n (found ++ s ∷ []) (omega arith) (omega arith) is, append_assoc found (s ∷ []) ss)
+    let part = statement_goal r limit (omega arith) (rest.follows closes.follows) (no_both (sees_word (codes "else") b) (ends_open s) (rest.calm closes.no_else)) in
+    by.goes n found s a b (by.apart a r.begun) part
+    ∙ rest.listed limit n (found ++ s ∷ []) ends reader by (omega arith) (omega arith) closes is
+    ∙ ap (λ ts. Some (ts, c)) (append_assoc found (s ∷ []) ss)
 
 pub next_statement_read : {s : Term} {ss : List Term} {a b c : Text} → IsReadStatement s a b → StatementsFollow ss b c → StatementsFollow (s ∷ ss) a c
 next_statement_read {a = a} r rest = record {
-  read = record {
-    utf8 = rest.read.utf8;
-    short = let s = r.shorter in let k = rest.read.short in omega arith;
-    reads = λ limit n found fits enough is. next_reads limit n found r rest fits enough is;
-  };
+  read = braced rest.read.utf8 (let s = r.shorter in let k = rest.read.short in omega arith) (next_listed r rest);
   calm = λ h. starts_no_word (codes "else") a r.begun refl;
   follows = λ h. starts_follow a r.begun;
+  listed = next_listed r rest;
 }
 
 -- ---- if and the loops
@@ -180,14 +214,10 @@ while_read t x y = let r = y.read in record {
   reads = λ limit fits w h. while_reads limit t x y (omega arith) (omega arith) w h;
 }
 
--- a word other than `else` follows a statement
-word_follows : {x b c : Text} → Seen (word x) b c → Follows b
-word_follows t = token_follows t refl refl
-
 do_reads : {e s : Term} {a b c d f g : Text} (limit : ℕ) → Seen (word (codes "do")) a b → IsReadEmbedded s b c → Seen (word (codes "while")) c d → IsReadCondition e d f → DoEnd f g → depth e ≤ limit → depth s ≤ limit → statement (read limit) a ≡ Some (of_parts Kind.DoWhileStatement s e, g)
 unfolding word_statement do_statement
 do_reads {s = s} {c = c} limit t y t' x end fits fits' =
-    word_there (read limit) t ∙ rw (t.after_is, embedded_reads limit y fits' (word_follows t') (no_both (sees_word (codes "else") c) (ends_open s) (sees_word_by (codes "else") t')), expect_word_read t', x.reads limit fits, do_end_read end x.utf8)
+    word_there (read limit) t ∙ rw (t.after_is, embedded_reads limit y fits' (token_follows t' refl) (no_both (sees_word (codes "else") c) (ends_open s) (sees_word_by (codes "else") t')), expect_word_read t', x.reads limit fits, do_end_read end x.utf8)
 
 pub do_read : {e s : Term} {a b c d f g : Text} → Seen (word (codes "do")) a b → IsReadEmbedded s b c → Seen (word (codes "while")) c d → IsReadCondition e d f → DoEnd f g → IsReadStatement (of_parts Kind.DoWhileStatement s e) a g
 do_read t y t' x end = let r = y.read in record {
@@ -206,7 +236,7 @@ present_ends e s (node k texts ts) h = refl
 if_else_reads : {e s t : Term} {a b c d f g : Text} (limit : ℕ) → ends_open s ≡ false → Seen (word (codes "if")) a b → IsReadCondition e b c → IsReadEmbedded s c d → Seen (word (codes "else")) d f → IsReadEmbedded t f g → depth e ≤ limit → depth s ≤ limit → depth t ≤ limit → Follows g → (sees_word (codes "else") g && ends_open t) ≡ false → statement (read limit) a ≡ Some (if_of e s t, g)
 unfolding word_statement if_statement alternate
 if_else_reads {s = s} {d = d} limit shut t x y t' z fits fits' fits'' w h =
-    word_there (read limit) t ∙ rw (t.after_is, x.reads limit fits, embedded_reads limit y fits' (word_follows t') (shut_in (sees_word (codes "else") d) shut), sees_word_by (codes "else") t', t'.after_is, embedded_reads limit z fits'' w h, shut)
+    word_there (read limit) t ∙ rw (t.after_is, x.reads limit fits, embedded_reads limit y fits' (token_follows t' refl) (shut_in (sees_word (codes "else") d) shut), sees_word_by (codes "else") t', t'.after_is, embedded_reads limit z fits'' w h, shut)
   where
     shut_in : (p : Bool) → ends_open s ≡ false → (p && ends_open s) ≡ false
     shut_in true e = e
