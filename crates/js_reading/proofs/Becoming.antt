@@ -1,5 +1,5 @@
 -- What is read as the items of a literal, and becomes the items of a target, of a pattern or of parameters.
-use Rattle.std.proofs.Common.{◌≡◌, ◌≤◌, ℕ, Bool, true, false, List, [], ◌∷◌, length, Some, Option, refl, sym, ◌∙◌, ap, arith, codes}
+use Rattle.std.proofs.Common.{◌≡◌, ◌≤◌, ℕ, Bool, true, false, List, [], ◌∷◌, Some, Option, refl, sym, ◌∙◌, arith, codes}
 use Rattle.std.specs.Str.{IsUtf8}
 use Rattle.std.proofs.lemmas.Bool.{false≢true}
 use Rattle.js_term.specs.Term.{Text, Term, absent, Terms, none, more, all, depth, depths}

@@ -1,5 +1,5 @@
 -- What is read of the parts below a depth, and the expressions, keys and templates that are made of them.
-use Rattle.std.proofs.Common.{◌≡◌, ◌≤◌, ◌<◌, ℕ, Bool, true, false, List, [], ◌∷◌, refl, arith, codes}
+use Rattle.std.proofs.Common.{◌≤◌, ◌<◌, ℕ, Bool, List, refl, arith}
 use Rattle.std.specs.Str.{IsUtf8}
 use Rattle.js_term.specs.Term.{Text, Term, list, node, Terms, more, all, depth, depths}
 use Rattle.js_term.specs.declared.kind.Kind.{Kind}

@@ -1,5 +1,5 @@
 -- What is spelled as an expression, a target or a pattern is read, from what is read below.
-use Rattle.std.proofs.Common.{◌≡◌, ℕ, Bool, true, false, refl, codes}
+use Rattle.std.proofs.Common.{ℕ, Bool, refl}
 use Rattle.std.specs.Str.{IsUtf8}
 use Rattle.js_term.specs.Term.{Text, Term}
 use Rattle.js_syntax.specs.Spelling as spell

@@ -1,26 +1,23 @@
 -- The items of targets, of patterns and of parameters are read as those of a literal.
-use Rattle.std.proofs.Common.{◌≡◌, ◌≤◌, ◌<◌, ℕ, suc, Bool, true, false, ◌||◌, if◌then◌else◌, List, [], ◌∷◌, length, Option, Some, None, refl, sym, ◌∙◌, ap, arith, codes}
+use Rattle.std.proofs.Common.{◌≡◌, ◌≤◌, ◌<◌, ℕ, Bool, true, false, ◌||◌, if◌then◌else◌, [], ◌∷◌, length, Option, Some, None, refl, arith, codes}
 use Rattle.std.specs.Str.{IsUtf8}
 use Rattle.std.proofs.lemmas.Bool.{false≢true}
-use Rattle.js_term.specs.Term.{Text, is_text, Term, absent, list, node, Terms, none, more, two, all, depth}
+use Rattle.js_term.specs.Term.{Text, Term, absent, list, node, none, more, two, all, depth}
 use Rattle.js_term.specs.declared.kind.Kind.{Kind}
-use Rattle.js_term.specs.Lexeme.{is_reserved}
-use Rattle.js_term.specs.Node.{name_of, identifier_of, binding_of}
-use Rattle.js_syntax.specs.Nodes.{marked, of_part, of_parts, pair_of, parameter_of}
+use Rattle.js_syntax.specs.Nodes.{marked, of_part, of_parts}
 use Rattle.js_syntax.specs.Parts.{is_node, is_present}
-use Rattle.js_syntax.specs.Tokens.{word, sign}
+use Rattle.js_syntax.specs.Tokens.{sign}
 use Rattle.js_syntax.specs.Edges.{is_simple_target}
 use Rattle.js_tokens.specs.Next.{lexeme}
 use Rattle.js_reading.specs.declared.goal.Goal.TheVariants as goal
-use Rattle.js_reading.specs.Reading.{Found, closed, Reading, sees}
+use Rattle.js_reading.specs.Reading.{Found, closed, Reading}
 use Rattle.js_reading.specs.Targets.{target_of, target_elements, target_property, target_properties, pattern_of, pattern_elements, pattern_property, pattern_properties, pattern_rest, bound_object_rest, parameter_as, parameters_as, parameter_rest}
 use Rattle.js_reading.specs.Parts.{spread_of, item}
-use Rattle.js_reading.specs.Expressions.{target_in, assigned_in}
+use Rattle.js_reading.specs.Expressions.{target_in}
 use Rattle.js_reading.specs.Read.{read}
 use Rattle.js_reading.proofs.TokensThere.{Seen, sees_by}
 use Rattle.js_reading.proofs.Opens.{begins, no_sign_there}
 use Rattle.js_reading.proofs.Lists.{is_end, begins_no_closer, some_item}
-use Rattle.js_reading.proofs.Climbs.{IsRead}
 use Rattle.js_reading.proofs.Listings.{StandsRead, item_of, element_of, expression_item, element_there, found_expression, spread_reads, spread_closes, hole_reads}
 use Rattle.js_reading.proofs.Arrows.{TargetRead, assignment_read}
 use Rattle.js_reading.proofs.Covers.{elements_more, properties_more}

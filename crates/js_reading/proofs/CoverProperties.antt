@@ -1,6 +1,5 @@
 -- The properties of targets and of patterns are read as those of an object.
-use Rattle.std.proofs.Common.{◌≡◌, ◌≤◌, ℕ, Bool, true, false, List, [], ◌∷◌, length, Option, Some, refl, sym, ◌∙◌, ap, arith, codes}
-use Rattle.std.specs.Str.{IsUtf8}
+use Rattle.std.proofs.Common.{◌≡◌, ◌≤◌, ℕ, Bool, true, false, List, [], ◌∷◌, Option, Some, refl, ◌∙◌, ap, arith, codes}
 use Rattle.std.proofs.lemmas.Bool.{false≢true}
 use Rattle.js_term.specs.Term.{Text, Term, flag, none, more, depth}
 use Rattle.js_term.specs.declared.kind.Kind.{Kind}
@@ -10,23 +9,22 @@ use Rattle.js_syntax.specs.Nodes.{of_part, of_parts, pair_of}
 use Rattle.js_syntax.specs.Parts.{is_present}
 use Rattle.js_syntax.specs.Tokens.{word, sign}
 use Rattle.js_syntax.specs.Edges.{edge, is_simple_target}
-use Rattle.js_tokens.specs.Next.{lexeme}
 use Rattle.js_reading.specs.declared.goal.Goal.{Goal}
 use Rattle.js_reading.specs.declared.goal.Goal.TheVariants as goal
-use Rattle.js_reading.specs.Reading.{Found, Reading, sees}
-use Rattle.js_reading.specs.Targets.{part_as, target_of, target_property, target_properties, pattern_of, pattern_property}
+use Rattle.js_reading.specs.Reading.{Found, Reading}
+use Rattle.js_reading.specs.Targets.{part_as, target_of, target_property, target_properties, pattern_of}
 use Rattle.js_reading.specs.Parts.{part, spread_of}
 use Rattle.js_reading.specs.Literals.{pair_found, default_found, shorthand_found, shorthand, property_item}
 use Rattle.js_reading.specs.Read.{read}
 use Rattle.js_reading.proofs.TokensThere.{Seen, sees_by}
-use Rattle.js_reading.proofs.Lists.{is_closing, is_end, some_item}
+use Rattle.js_reading.proofs.Lists.{is_closing, some_item}
 use Rattle.js_reading.proofs.Follows.{end_holds}
 use Rattle.js_reading.proofs.Climbs.{whole, right_read}
 use Rattle.js_reading.proofs.Leaves.{identifier_read}
 use Rattle.js_reading.proofs.Listings.{StandsRead, stands, found_expression, spread_closes}
 use Rattle.js_reading.proofs.Grouped.{property_of}
 use Rattle.js_reading.proofs.Fields.{KeyItem, item_open, item_goes, colon_goes, valued_there, named_there, plain_name, seen_key, shorthand_reads, spread_there}
-use Rattle.js_reading.proofs.Becoming.{Gathering, Turning, ItemCover, RestCover}
+use Rattle.js_reading.proofs.Becoming.{Turning, ItemCover, RestCover}
 use Rattle.js_reading.proofs.CoverItems.{properties, as_targets, as_properties, DefaultCover}
 
 -- ---- k: t

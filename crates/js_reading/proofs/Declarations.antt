@@ -26,8 +26,7 @@ use Rattle.js_reading.proofs.Listings.{StandsRead}
 use Rattle.js_reading.proofs.Claims.{IsReadPattern, FunctionOpens, plain_function, async_function, IsReadFunction, IsReadClass}
 use Rattle.js_reading.proofs.Functions.{IsReadInitializer, no_initializer_read, initializer_read, bound_read, pattern_no_sign}
 use Rattle.js_reading.proofs.Ending.{behind_semicolon, ended_operand}
-use Rattle.js_reading.proofs.StatementStarts.{starts, starts_by, Follows, semicolon_follows, IsReadStatement}
-use Rattle.js_reading.proofs.StatementsThere.{word_there}
+use Rattle.js_reading.proofs.StatementStarts.{starts, starts_by, Follows, semicolon_follows, IsReadStatement, word_there}
 
 -- ---- a declarator
 

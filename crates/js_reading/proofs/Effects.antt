@@ -13,12 +13,12 @@ use Rattle.js_syntax.specs.Edges.{Edge, edge, begins_with_brace, begins_with_def
 use Rattle.js_syntax.specs.Spelling.{Semicolon}
 use Rattle.js_tokens.specs.Next.{lexeme, after}
 use Rattle.js_reading.specs.declared.goal.Goal.{Goal}
-use Rattle.js_reading.specs.Reading.{Found, Reading, either, is_word, sees, sees_word, same_line, at_end, left_out}
+use Rattle.js_reading.specs.Reading.{Found, Reading, either, sees, sees_word, same_line, at_end, left_out}
 use Rattle.js_reading.specs.Statements.{begins_async_function, effect, labeled, plain_statement, word_statement, statement_by, statement}
 use Rattle.js_reading.specs.Read.{read}
 use Rattle.js_reading.proofs.Each.{there}
 use Rattle.js_reading.proofs.TokensThere.{Seen, see_word, sees_by, sees_word_by}
-use Rattle.js_reading.proofs.TokensEnd.{Ended, by_sign, by_stop, ended, end_none, lexeme_sees, semicolon_utf8, semicolon_short}
+use Rattle.js_reading.proofs.TokensEnd.{Ended, by_sign, by_stop, ended, end_none, lexeme_sees, semicolon_utf8, semicolon_short, lexeme_sees_word}
 use Rattle.js_reading.proofs.Opens.{begins, begins_definition, Opens, no_sign_there, word_among}
 use Rattle.js_reading.proofs.Joining.{Joined, no_definition_there}
 use Rattle.js_reading.proofs.Lists.{ending_end, sees_sign}
@@ -27,8 +27,8 @@ use Rattle.js_reading.proofs.Leaves.{not_text, identifier_read}
 use Rattle.js_reading.proofs.Listings.{stands, IsReadExpression, single_read, expression_before}
 use Rattle.js_reading.proofs.Ending.{Behind, behind_semicolon}
 use Rattle.js_reading.proofs.Jumping.{ended_expression}
-use Rattle.js_reading.proofs.StatementStarts.{begins_starts, Follows, semicolon_follows, IsReadStatement}
-use Rattle.js_reading.proofs.StatementsThere.{word_there, IsReadEmbedded, embedded_reads}
+use Rattle.js_reading.proofs.StatementStarts.{begins_starts, Follows, semicolon_follows, IsReadStatement, word_there}
+use Rattle.js_reading.proofs.StatementsThere.{IsReadEmbedded, embedded_reads}
 
 -- ---- no label stands in front of an expression
 
@@ -114,18 +114,14 @@ effect_there sub a u h brace calm label = effect_by sub a (lexeme a) u refl h br
 
 -- ---- an expression
 
-no_function : {o : Option Lexeme} (b : Text) → lexeme b ≡ o → is_word (codes "function") o ≡ false → sees_word (codes "function") b ≡ false
-unfolding sees_word
-no_function b is h = ap (is_word (codes "function")) is ∙ h
-
 -- no `function` stands behind an expression that ends a statement
 no_function_behind : {x : Edge} {b c : Text} → Ended x b c → begins_async_function b ≡ false
 unfolding begins_async_function left_out
 no_function_behind {b = b} (by_sign t) = and_right (same_line b) _ (sees_word_by (codes "function") t)
 no_function_behind {b = b} (by_stop same st) = either_case (sees (codes "}") b || at_end b) _ st.left
     (λ h. either_case (sees (codes "}") b) (at_end b) h
-    (λ is. and_right (same_line b) _ (no_function b (sees_sign (codes "}") b is) refl))
-    (λ is. and_right (same_line b) _ (no_function b (end_none b is) refl)))
+    (λ is. and_right (same_line b) _ (lexeme_sees_word (codes "function") b _ (sees_sign (codes "}") b is)))
+    (λ is. and_right (same_line b) _ (lexeme_sees_word (codes "function") b _ (end_none b is))))
     (λ h. let (line, on) = and_parts (not (same_line b)) _ h in and_left (same_line b) _ (not-true _ line))
 
 no_labels : {e : Term} {a b : Text} (o : Option Lexeme) → IsUtf8 a → lexeme a ≡ o → IsReadExpression true e a b → Behind (edge e) b → sees (codes ":") b ≡ false → labels o (after a) ≡ false

@@ -18,8 +18,8 @@ use Rattle.js_reading.specs.Literals.{modifies_method, is_accessor, pair_found, 
 use Rattle.js_reading.specs.Read.{read}
 use Rattle.js_reading.proofs.TokensThere.{Seen, sees_by}
 use Rattle.js_reading.proofs.Each.{no_sign_by}
-use Rattle.js_reading.proofs.Lists.{is_closing, is_end, separates, ReadsItem, some_item, separate_item}
-use Rattle.js_reading.proofs.Climbs.{whole, IsRead}
+use Rattle.js_reading.proofs.Lists.{is_closing, separates, ReadsItem, some_item, separate_item}
+use Rattle.js_reading.proofs.Climbs.{whole}
 use Rattle.js_reading.proofs.Listings.{StandsRead, FoundItem, found_expression}
 use Rattle.js_reading.proofs.Grouped.{property_of}
 use Rattle.js_reading.proofs.Templating.{IsReadKey, name_key_read, string_key_read, number_key_read, bigint_key_read, computed_key_read}

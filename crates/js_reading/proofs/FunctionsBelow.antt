@@ -1,5 +1,5 @@
 -- Functions, methods, classes and the properties of objects that stand in a text are read, from what is read below.
-use Rattle.std.proofs.Common.{◌≡◌, ℕ, Bool, true, false, List, [], refl, codes}
+use Rattle.std.proofs.Common.{ℕ, Bool, false, List, [], refl, codes}
 use Rattle.std.specs.Str.{IsUtf8}
 use Rattle.js_term.specs.Term.{Text, Term, all}
 use Rattle.js_term.specs.declared.kind.Kind.{Kind}

@@ -28,8 +28,8 @@ use Rattle.js_reading.proofs.Listings.{StandsRead, ExpressionsRead, IsReadExpres
 use Rattle.js_reading.proofs.Arrows.{TargetRead}
 use Rattle.js_reading.proofs.Claims.{IsReadPattern}
 use Rattle.js_reading.proofs.Functions.{initializer_before, bound_read}
-use Rattle.js_reading.proofs.StatementStarts.{starts, Follows, IsReadStatement}
-use Rattle.js_reading.proofs.StatementsThere.{word_there, IsReadEmbedded, embedded_reads}
+use Rattle.js_reading.proofs.StatementStarts.{starts, Follows, IsReadStatement, word_there}
+use Rattle.js_reading.proofs.StatementsThere.{IsReadEmbedded, embedded_reads}
 use Rattle.js_reading.proofs.Declarations.{IsReadDeclarators, last_declarator, and_declarator, reads_declarators, declarators_there}
 
 -- ---- by the first token

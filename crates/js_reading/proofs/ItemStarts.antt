@@ -8,7 +8,7 @@ use Rattle.js_reading.specs.Reading.{is_word, sees_word, at_end}
 use Rattle.js_reading.specs.Modules.{module_item}
 use Rattle.js_reading.specs.Read.{read}
 use Rattle.js_reading.proofs.TokensThere.{Seen, sees_word_by}
-use Rattle.js_reading.proofs.TokensEnd.{end_none, some_none, no_lexeme, seen_not_end}
+use Rattle.js_reading.proofs.TokensEnd.{end_none, some_none, seen_not_end}
 use Rattle.js_reading.proofs.StatementStarts.{end_follows, starts, starts_no_word, Follows, starts_follow, token_follows}
 
 -- What comes behind an item takes none of it.

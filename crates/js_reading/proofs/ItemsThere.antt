@@ -26,8 +26,6 @@ use Rattle.js_reading.proofs.Knot.{stands_read, statement_read, function_read, c
 use Rattle.js_reading.proofs.TokensThere.{Seen, see, see_sign, see_word}
 use Rattle.js_reading.proofs.TokensEnd.{ended as ends_so, semicolon_utf8, semicolon_short}
 use Rattle.js_reading.proofs.Joining.{stands_joined}
-use Rattle.js_reading.proofs.Listings.{StandsRead}
-use Rattle.js_reading.proofs.Claims.{IsReadFunction, IsReadClass}
 use Rattle.js_reading.proofs.StatementStarts.{starts, starts_no_end, IsReadStatement}
 use Rattle.js_reading.proofs.StatementsThere.{statement_part}
 use Rattle.js_reading.proofs.Specified.{NameRead, name_at_utf8, name_at_shorter, export_name_read, list_short}

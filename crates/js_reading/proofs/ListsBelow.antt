@@ -1,12 +1,12 @@
 -- Lists of expressions, targets, patterns and parameters that stand in a text are read, from what is read below.
-use Rattle.std.proofs.Common.{◌≡◌, ℕ, Bool, true, false, List, refl, codes}
+use Rattle.std.proofs.Common.{ℕ, Bool, true, false, List, refl}
 use Rattle.std.specs.Str.{IsUtf8}
 use Rattle.std.proofs.lemmas.Bool.{false≢true}
 use Rattle.js_term.specs.Term.{Text, Term, absent, all}
 use Rattle.js_syntax.specs.Spelling as spell
 use Rattle.js_syntax.specs.Spelling.{Item, Listed, Group, Rested, Rest, Arguments, ImportOptions, Parameters, DefaultedTarget, Defaulted}
 use Rattle.js_reading.proofs.TokensThere.{see_sign, see_word}
-use Rattle.js_reading.proofs.Below.{Fits, Small, Smalls, Below, first_in, second_in, head_in, tail_in, fits, key_below, items_in}
+use Rattle.js_reading.proofs.Below.{Small, Smalls, Below, first_in, second_in, head_in, tail_in, fits, key_below, items_in}
 use Rattle.js_reading.proofs.PatternsRead.{arrow_parameters_read, binding_rest, parameter_alone, parameter_default, parameter_rest_cover, pattern_alone, pattern_default, pattern_utf8, target_alone, target_default, target_rest}
 use Rattle.js_reading.proofs.Listings.{ElementList, FoundGroup, FoundItem, FoundList, and_element, and_found, comma_found, element_of, elements_comma, elements_found, hole_element, item_of, last_element, last_found, last_hole, none_found, some_found, spread_element, spread_item, stands_element, stands_item}
 use Rattle.js_reading.proofs.Grouped.{ParenList, and_paren, last_paren, property_of}

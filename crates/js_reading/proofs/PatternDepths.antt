@@ -1,6 +1,6 @@
 -- A target and the pattern that it becomes have one depth.
-use Rattle.std.proofs.Common.{◌≡◌, ℕ, true, false, List, [], ◌∷◌, Option, Some, refl, sym, ◌∙◌, ap}
-use Rattle.js_term.specs.Term.{Text, Term, absent, list, node, Terms, none, more, all, depth, depths}
+use Rattle.std.proofs.Common.{◌≡◌, true, false, List, [], ◌∷◌, Some, refl, sym}
+use Rattle.js_term.specs.Term.{Term, absent, list, node, Terms, none, more, all, depth, depths}
 use Rattle.js_term.specs.declared.kind.Kind.{Kind}
 use Rattle.js_term.specs.Node.{binding_of}
 use Rattle.js_reading.specs.Targets.{with_rest, bound_name, bound_object_rest, pattern_of, pattern_rest, pattern_elements, pattern_property, pattern_properties}

@@ -1,7 +1,6 @@
 -- Targets, patterns and the parameters of arrow functions that stand in a text are read.
-use Rattle.std.proofs.Common.{◌≡◌, ◌≤◌, ◌<◌, ℕ, suc, ◌+◌, Bool, true, false, ◌||◌, List, [], ◌∷◌, length, Option, Some, None, refl, sym, subst, ◌∙◌, ap, arith, codes}
+use Rattle.std.proofs.Common.{◌≡◌, ◌≤◌, ℕ, ◌+◌, Bool, true, false, List, Some, refl, sym, subst, ap, arith, codes}
 use Rattle.std.specs.Str.{IsUtf8}
-use Rattle.std.proofs.lemmas.Bool.{false≢true}
 use Rattle.js_term.specs.Term.{Text, is_text, Term, absent, all, depth, depths}
 use Rattle.js_term.specs.declared.kind.Kind.{Kind}
 use Rattle.js_term.specs.Lexeme.{is_reserved}
@@ -9,14 +8,13 @@ use Rattle.js_term.specs.Node.{identifier_of, binding_of, array_of, object_of}
 use Rattle.js_syntax.specs.Nodes.{of_part, of_parts, rested, parameter_of}
 use Rattle.js_syntax.specs.Tokens.{word, sign}
 use Rattle.js_tokens.specs.Next.{lexeme}
-use Rattle.js_reading.specs.declared.goal.Goal.{Goal}
-use Rattle.js_reading.specs.Reading.{Found, Reading, trees}
+use Rattle.js_reading.specs.Reading.{Found, trees}
 use Rattle.js_reading.specs.Targets.{target_elements, target_properties, pattern_of, pattern_elements, pattern_properties, pattern_rest, bound_object_rest, parameter_as, parameters_as, parameter_rest}
-use Rattle.js_reading.specs.Literals.{is_barred, literal, array, object}
+use Rattle.js_reading.specs.Literals.{is_barred, literal}
 use Rattle.js_reading.specs.Statements.{destructured, pattern}
 use Rattle.js_reading.specs.Expressions.{target_in, assigned_in, parameters_in}
 use Rattle.js_reading.specs.Read.{read}
-use Rattle.js_reading.proofs.TokensThere.{Seen, sees_by, expect_read}
+use Rattle.js_reading.proofs.TokensThere.{Seen, sees_by}
 use Rattle.js_reading.proofs.Opens.{begins}
 use Rattle.js_reading.proofs.Lists.{ReadsGroup}
 use Rattle.js_reading.proofs.Leaves.{identifier_read}

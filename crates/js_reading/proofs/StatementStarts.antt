@@ -1,5 +1,5 @@
 -- With what the text of a statement begins, and what may follow one.
-use Rattle.std.proofs.Common.{◌≡◌, ◌≤◌, ◌<◌, ℕ, suc, Bool, true, false, ◌&&◌, ◌||◌, List, [], ◌∷◌, length, map, Option, Some, None, refl, sym, ◌∙◌, ap, codes, subst}
+use Rattle.std.proofs.Common.{◌≡◌, ◌≤◌, ◌<◌, ℕ, suc, Bool, true, false, ◌&&◌, ◌||◌, List, [], ◌∷◌, length, map, Option, Some, None, refl, sym, ◌∙◌, ap, codes, subst, arith}
 use Rattle.std.specs.Str.{IsUtf8}
 use Rattle.std.proofs.lemmas.Bool.{false≢true, or_parts}
 use Rattle.js_term.specs.Term.{Text, is_text, Term, depth}
@@ -9,8 +9,9 @@ use Rattle.js_syntax.specs.Spelling.{Semicolon}
 use Rattle.js_syntax.specs.Edges.{Edge}
 use Rattle.js_syntax.specs.Tokens.{Lexeme, word, private_name, number, big_integer, string, no_substitution, template_head, sign, regexp, template_middle, template_tail}
 use Rattle.js_tokens.specs.Next.{lexeme}
-use Rattle.js_reading.specs.Reading.{is_sign, is_word, sees, sees_word, at_end}
-use Rattle.js_reading.specs.Statements.{statement}
+use Rattle.js_reading.specs.Reading.{Found, Reading, is_sign, is_word, sees, sees_word, at_end}
+use Rattle.js_reading.specs.declared.goal.Goal.{Goal}
+use Rattle.js_reading.specs.Statements.{word_statement, statement}
 use Rattle.js_reading.specs.Read.{read}
 use Rattle.js_reading.proofs.Each.{no_sign_by, no_word_by, is_end as at_its_end}
 use Rattle.js_reading.proofs.TokensThere.{Seen}
@@ -115,3 +116,19 @@ pub record IsReadStatement (s : Term) (a b : Text) : Type 0 where
   pub begun : starts (lexeme a) ≡ true
   pub deep : 0 < depth s
   pub reads : (limit : ℕ) → depth s ≤ suc limit → Follows b → (sees_word (codes "else") b && ends_open s) ≡ false → statement (read limit) a ≡ Some (s, b)
+
+-- ---- by the word in front
+
+pub word_there : {x : Text} (sub : Goal → Text → Reading Found) {a b : Text} → Seen (word x) a b → statement sub a ≡ word_statement sub x a
+unfolding statement
+word_there sub t = rw (t.lexeme_is)
+
+-- one that is read whatever follows
+pub word_read : {x : Text} {s : Term} {a b c : Text} → Seen (word x) a b → starts (Some (word x)) ≡ true → 0 < depth s → IsUtf8 c → length c ≤ length b → ((limit : ℕ) → depth s ≤ suc limit → word_statement (read limit) x a ≡ Some (s, c)) → IsReadStatement s a c
+word_read t begun deep u short reads = record {
+  utf8 = u;
+  shorter = let s = t.shorter in omega arith;
+  begun = ap starts t.lexeme_is ∙ begun;
+  deep = deep;
+  reads = λ limit fits w h. word_there (read limit) t ∙ reads limit fits;
+}

@@ -1,5 +1,5 @@
 -- What is spelled as a statement is read, from what is read below.
-use Rattle.std.proofs.Common.{◌≡◌, ℕ, Bool, true, false, List, []}
+use Rattle.std.proofs.Common.{ℕ, Bool, List}
 use Rattle.std.specs.Str.{IsUtf8}
 use Rattle.std.proofs.lemmas.Bool.{false≢true}
 use Rattle.js_term.specs.Term.{Text, Term, all}
@@ -11,10 +11,10 @@ use Rattle.js_reading.proofs.StatementsBelow.{statements_follow}
 use Rattle.js_reading.proofs.FunctionsBelow.{pattern_bound, function_below, class_below}
 use Rattle.js_reading.proofs.Opens.{expression_opens, target_opens}
 use Rattle.js_reading.proofs.Joining.{expression_joined}
-use Rattle.js_reading.proofs.Listings.{StandsRead}
 use Rattle.js_reading.proofs.Dispatching.{stands_starts}
 use Rattle.js_reading.proofs.StatementStarts.{IsReadStatement}
-use Rattle.js_reading.proofs.StatementsThere.{IsReadBlock, block_read, block_statement_read, StatementsFollow, no_statements_read, next_statement_read, IsReadEmbedded, embedded_read, condition_read, empty_read, if_read, if_else_read, do_read, while_read, continue_read, break_read, bare_return_read, ending_read, return_read, throw_read, debugger_read}
+use Rattle.js_reading.proofs.StatementsThere.{IsReadBlock, block_read, block_statement_read, IsReadEmbedded, embedded_read, condition_read, if_read, if_else_read, do_read, while_read}
+use Rattle.js_reading.proofs.Jumping.{empty_read, continue_read, break_read, bare_return_read, ending_read, return_read, throw_read, debugger_read}
 use Rattle.js_reading.proofs.Effects.{effect_read, labeled_read}
 use Rattle.js_reading.proofs.Declarations.{IsReadDeclarators, last_declarator, and_declarator, bare_declarator_read, declarator_read, variables_read, function_declaration_read, class_declaration_read}
 use Rattle.js_reading.proofs.Heads.{IsReadInit, no_init_read, init_variables_read, single_init_read, sequence_init_read, IsReadLeft, left_variable_read, left_target_read, IsReadPerhaps, perhaps_not_read, perhaps_read, for_read, for_in_read, for_of_read, for_await_read}

@@ -1,5 +1,5 @@
 -- Lists of statements that stand in a text are read, from what is read below.
-use Rattle.std.proofs.Common.{ℕ, List, []}
+use Rattle.std.proofs.Common.{ℕ, List}
 use Rattle.std.specs.Str.{IsUtf8}
 use Rattle.js_term.specs.Term.{Text, Term, all}
 use Rattle.js_syntax.specs.Spelling as spell

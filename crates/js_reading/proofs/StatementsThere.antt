@@ -3,29 +3,25 @@ use Rattle.std.proofs.Common.{◌≡◌, ◌≤◌, ◌<◌, ℕ, zero, suc, Boo
 use Rattle.std.specs.Str.{IsUtf8}
 use Rattle.js_term.specs.Term.{Text, Term, absent, list, node, all, depth, depths}
 use Rattle.js_term.specs.declared.kind.Kind.{Kind}
-use Rattle.js_term.specs.Node.{return_of}
-use Rattle.js_syntax.specs.Nodes.{alone, of_part, of_parts, block_of, if_of}
+use Rattle.js_syntax.specs.Nodes.{of_parts, block_of, if_of}
 use Rattle.js_syntax.specs.Printable.{ends_open}
 use Rattle.js_syntax.specs.Tokens.{word, sign, Lexeme}
-use Rattle.js_syntax.specs.Edges.{plain, edge, is_body}
-use Rattle.js_syntax.specs.Spelling.{Semicolon, DoEnd, Label}
+use Rattle.js_syntax.specs.Edges.{is_body}
+use Rattle.js_syntax.specs.Spelling.{DoEnd}
 use Rattle.js_tokens.specs.Next.{lexeme}
-use Rattle.js_reading.specs.declared.goal.Goal.{Goal}
 use Rattle.js_reading.specs.declared.goal.Goal.TheVariants as goal
-use Rattle.js_reading.specs.Reading.{Found, closed, Reading, sees, sees_word, same_line, left_out, is_word}
+use Rattle.js_reading.specs.Reading.{closed, Reading, sees, sees_word, is_word}
 use Rattle.js_reading.specs.Functions.{statements}
-use Rattle.js_reading.specs.Statements.{inner, embedded, condition, block, ended, return_statement, throw_statement, ends_here, alternate, if_statement, while_statement, do_statement, word_statement, statement}
+use Rattle.js_reading.specs.Statements.{inner, embedded, condition, block, alternate, if_statement, while_statement, do_statement, word_statement, statement}
 use Rattle.js_reading.specs.Read.{read}
 use Rattle.js_reading.proofs.TokensThere.{Seen, sees_by, sees_word_by, expect_read, expect_word_read, see_sign}
-use Rattle.js_reading.proofs.TokensEnd.{semicolon_utf8, semicolon_short, do_end_read, do_end_utf8, do_end_short}
+use Rattle.js_reading.proofs.TokensEnd.{do_end_read, do_end_utf8, do_end_short}
 use Rattle.js_reading.proofs.Each.{seen}
 use Rattle.js_reading.proofs.Lists.{is_end}
 use Rattle.js_reading.proofs.Listings.{IsReadExpression, expression_before}
 use Rattle.js_reading.proofs.Claims.{IsReadStatements}
 use Rattle.js_reading.proofs.Functions.{closed_statements}
-use Rattle.js_reading.proofs.Jumping as jumping
-use Rattle.js_reading.proofs.Opens.{begins, no_sign_there}
-use Rattle.js_reading.proofs.StatementStarts.{starts, begins_starts, starts_no_end, starts_no_sign, starts_no_word, Follows, starts_follow, token_follows, IsReadStatement, goes_behind}
+use Rattle.js_reading.proofs.StatementStarts.{starts, starts_no_sign, starts_no_word, Follows, starts_follow, token_follows, IsReadStatement, goes_behind, word_there}
 
 -- ---- a statement as a part
 
@@ -54,12 +50,6 @@ condition_reads : {e : Term} {a b c d : Text} (limit : ℕ) → Seen (sign (code
 unfolding condition
 condition_reads limit open' x close fits = rw (expect_read open', expression_before x limit fits (ap is_end close.lexeme_is) (sees_by (codes ",") close), expect_read close)
 
--- ---- by the first token
-
-pub word_there : {x : Text} (sub : Goal → Text → Reading Found) {a b : Text} → Seen (word x) a b → statement sub a ≡ word_statement sub x a
-unfolding statement
-word_there sub t = rw (t.lexeme_is)
-
 -- where both are asked for, one is not
 no_both : (p q : Bool) → p ≡ false → (p && q) ≡ false
 no_both true q h = absurd (cc)
@@ -68,14 +58,6 @@ no_both false q h = refl
 only_left : (p : Bool) → (p && true) ≡ false → p ≡ false
 only_left true h = h
 only_left false h = refl
-
--- ---- statements without parts
-
-pub empty_read : {a b : Text} → Seen (sign (codes ";")) a b → IsReadStatement (alone Kind.EmptyStatement) a b
-empty_read t = record { utf8 = t.utf8; shorter = t.shorter; begun = ap starts t.lexeme_is; deep = omega arith; reads = λ limit fits w h. jumping.empty_statement_read (read limit) t }
-
-pub debugger_read : {a b c : Text} → Seen (word (codes "debugger")) a b → Semicolon plain b c → IsReadStatement (alone Kind.DebuggerStatement) a c
-debugger_read t end = record { utf8 = semicolon_utf8 end t.utf8; shorter = let s = t.shorter in let k = semicolon_short end t.utf8 in omega arith; begun = ap starts t.lexeme_is; deep = omega arith; reads = λ limit fits w h. jumping.debugger_read (read limit) t end }
 
 -- ---- blocks
 
@@ -250,83 +232,3 @@ if_else_read {e} {s} {t} {g = g} shut w x y w' z = let r = y.read in let q = z.r
   deep = omega arith;
   reads = λ limit fits v h. if_else_reads limit shut w x y w' z (omega arith) (omega arith) (omega arith) v (ap (λ (k : Bool). sees_word (codes "else") g && k) (sym (present_ends e s t q.deep)) ∙ h);
 }
-
--- ---- what ends with an expression
-
--- an expression, and the semicolon behind it
-pub record IsReadEnding (e : Term) (a c : Text) : Type 0 where
-  pub utf8 : IsUtf8 c
-  pub shorter : length c < length a
-  pub deep : 0 < depth e
-  pub begun : begins (lexeme a) ≡ true
-  pub reads : (limit : ℕ) → depth e ≤ limit → ended (read limit) a ≡ Some (e, c)
-
-pub ending_read : {e : Term} {a b c : Text} → begins (lexeme a) ≡ true → IsReadExpression true e a b → Semicolon (edge e) b c → IsReadEnding e a c
-ending_read begun x end = record {
-  utf8 = semicolon_utf8 end x.utf8;
-  shorter = let s = x.shorter in let k = semicolon_short end x.utf8 in omega arith;
-  deep = x.deep;
-  begun = begun;
-  reads = λ limit fits. jumping.ended_expression x end limit fits;
-}
-
--- an operand of `return` stands on its line
-no_semicolon : (b : Text) → begins (lexeme b) ≡ true → sees (codes ";") b ≡ false
-no_semicolon b h = no_sign_there (codes ";") b h refl
-
-operand_here : (b : Text) → begins (lexeme b) ≡ true → same_line b ≡ true → ends_here b ≡ false
-unfolding ends_here left_out
-operand_here b h line =
-    let s = begins_starts (lexeme b) h in
-    rw (no_semicolon b h, starts_no_sign (codes "}") b s refl, starts_no_end b s, line) refl
-
-return_reads : {e : Term} {a b c : Text} (limit : ℕ) → Seen (word (codes "return")) a b → same_line b ≡ true → IsReadEnding e b c → depth e ≤ limit → statement (read limit) a ≡ Some (return_of e, c)
-unfolding word_statement return_statement
-return_reads {b = b} limit t line x fits = word_there (read limit) t ∙ rw (t.after_is, operand_here b x.begun line, x.reads limit fits)
-
-pub return_read : {e : Term} {a b c : Text} → Seen (word (codes "return")) a b → same_line b ≡ true → IsReadEnding e b c → IsReadStatement (return_of e) a c
-return_read t line x = record {
-  utf8 = x.utf8;
-  shorter = let s1 = t.shorter in let s2 = x.shorter in omega arith;
-  begun = ap starts t.lexeme_is;
-  deep = omega arith;
-  reads = λ limit fits w h. return_reads limit t line x (omega arith);
-}
-
-throw_reads : {e : Term} {a b c : Text} (limit : ℕ) → Seen (word (codes "throw")) a b → same_line b ≡ true → IsReadEnding e b c → depth e ≤ limit → statement (read limit) a ≡ Some (of_part Kind.ThrowStatement e, c)
-unfolding word_statement throw_statement
-throw_reads limit t line x fits = word_there (read limit) t ∙ rw (t.after_is, line, x.reads limit fits)
-
-pub throw_read : {e : Term} {a b c : Text} → Seen (word (codes "throw")) a b → same_line b ≡ true → IsReadEnding e b c → IsReadStatement (of_part Kind.ThrowStatement e) a c
-throw_read t line x = record {
-  utf8 = x.utf8;
-  shorter = let s1 = t.shorter in let s2 = x.shorter in omega arith;
-  begun = ap starts t.lexeme_is;
-  deep = omega arith;
-  reads = λ limit fits w h. throw_reads limit t line x (omega arith);
-}
-
-pub bare_return_read : {a b c : Text} → Seen (word (codes "return")) a b → Semicolon plain b c → IsReadStatement (return_of absent) a c
-bare_return_read t end = record {
-  utf8 = semicolon_utf8 end t.utf8;
-  shorter = let s = t.shorter in let k = semicolon_short end t.utf8 in omega arith;
-  begun = ap starts t.lexeme_is;
-  deep = omega arith;
-  reads = λ limit fits w h. jumping.bare_return_read (read limit) t end;
-}
-
--- what `break` and `continue` share
-jump_statement : {k : Kind} {x : Text} {l : Term} {a b c d : Text} → Seen (word x) a b → starts (Some (word x)) ≡ true → Label l b c → Semicolon plain c d → ((sub : Goal → Text → Reading Found) → statement sub a ≡ Some (of_part k l, d)) → IsReadStatement (of_part k l) a d
-jump_statement t begun l end reads = let u = jumping.label_utf8 t.utf8 l in record {
-  utf8 = semicolon_utf8 end u;
-  shorter = let s1 = t.shorter in let s2 = jumping.label_short t.utf8 l in let s3 = semicolon_short end u in omega arith;
-  begun = ap starts t.lexeme_is ∙ begun;
-  deep = omega arith;
-  reads = λ limit fits w h. reads (read limit);
-}
-
-pub break_read : {l : Term} {a b c d : Text} → Seen (word (codes "break")) a b → Label l b c → Semicolon plain c d → IsReadStatement (of_part Kind.BreakStatement l) a d
-break_read t l end = jump_statement t refl l end (λ sub. jumping.break_read sub t l end)
-
-pub continue_read : {l : Term} {a b c d : Text} → Seen (word (codes "continue")) a b → Label l b c → Semicolon plain c d → IsReadStatement (of_part Kind.ContinueStatement l) a d
-continue_read t l end = jump_statement t refl l end (λ sub. jumping.continue_read sub t l end)

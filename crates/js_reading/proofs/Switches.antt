@@ -18,8 +18,8 @@ use Rattle.js_reading.proofs.Lists.{is_end}
 use Rattle.js_reading.proofs.Listings.{IsReadExpression, expression_before}
 use Rattle.js_reading.proofs.Claims.{IsReadPattern}
 use Rattle.js_reading.proofs.Functions.{bound_read}
-use Rattle.js_reading.proofs.StatementStarts.{starts, starts_no_sign, starts_no_word, Follows, IsReadStatement}
-use Rattle.js_reading.proofs.StatementsThere.{word_there, IsReadCondition, IsReadBlock, ReadsList, Closes, token_closes, brace_closes, StatementsFollow}
+use Rattle.js_reading.proofs.StatementStarts.{starts, starts_no_sign, starts_no_word, Follows, IsReadStatement, word_there, word_read}
+use Rattle.js_reading.proofs.StatementsThere.{IsReadCondition, IsReadBlock, ReadsList, Closes, token_closes, brace_closes, StatementsFollow}
 
 -- ---- the statements of a case
 
@@ -112,19 +112,12 @@ next_case_read t colon x rest = record {
   reads = λ limit n found fits enough is. case_reads t colon x rest limit n found fits enough is;
 }
 
-switch_reads : {e : Term} {cs : List Term} {a b c d f g : Text} (limit : ℕ) → is_switch (two e (list (all cs))) ≡ true → Seen (word (codes "switch")) a b → IsReadCondition e b c → Seen (sign (codes "{")) c d → IsReadCases cs d f → Seen (sign (codes "}")) f g → depth e ≤ limit → depths (all cs) ≤ limit → statement (read limit) a ≡ Some (of_parts Kind.SwitchStatement e (list (all cs)), g)
+switch_there : {e : Term} {cs : List Term} {a b c d f g : Text} (limit : ℕ) → is_switch (two e (list (all cs))) ≡ true → Seen (word (codes "switch")) a b → IsReadCondition e b c → Seen (sign (codes "{")) c d → IsReadCases cs d f → Seen (sign (codes "}")) f g → depth e ≤ limit → depths (all cs) ≤ limit → word_statement (read limit) (codes "switch") a ≡ Some (of_parts Kind.SwitchStatement e (list (all cs)), g)
 unfolding word_statement switch_statement
-switch_reads {d = d} limit sound t x open' y close fits fits' =
-    word_there (read limit) t ∙ rw (t.after_is, x.reads limit fits, expect_read open', y.reads limit (length d) [] fits' (omega arith) (sees_by (codes "}") close), expect_read close, sound)
+switch_there {d = d} limit sound t x open' y close fits fits' = rw (t.after_is, x.reads limit fits, expect_read open', y.reads limit (length d) [] fits' (omega arith) (sees_by (codes "}") close), expect_read close, sound)
 
 pub switch_read : {e : Term} {cs : List Term} {a b c d f g : Text} → is_switch (two e (list (all cs))) ≡ true → Seen (word (codes "switch")) a b → IsReadCondition e b c → Seen (sign (codes "{")) c d → IsReadCases cs d f → Seen (sign (codes "}")) f g → IsReadStatement (of_parts Kind.SwitchStatement e (list (all cs))) a g
-switch_read sound t x open' y close = record {
-  utf8 = close.utf8;
-  shorter = let s1 = t.shorter in let s2 = x.shorter in let s3 = open'.shorter in let s4 = y.short in let s5 = close.shorter in omega arith;
-  begun = ap starts t.lexeme_is;
-  deep = omega arith;
-  reads = λ limit fits w h. switch_reads limit sound t x open' y close (omega arith) (omega arith);
-}
+switch_read sound t x open' y close = word_read t refl (omega arith) close.utf8 (let s2 = x.shorter in let s3 = open'.shorter in let s4 = y.short in let s5 = close.shorter in omega arith) (λ limit fits. switch_there limit sound t x open' y close (omega arith) (omega arith))
 
 -- ---- try
 

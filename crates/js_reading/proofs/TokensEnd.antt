@@ -12,7 +12,7 @@ use Rattle.js_syntax.proofs.Fronts.{among}
 use Rattle.js_tokens.specs.Gaps.{Behind, gap, is_same_line, is_at_end}
 use Rattle.js_tokens.specs.Next.{lexeme, lexeme_in, cut, cut_behind, next}
 use Rattle.js_tokens.proofs.GapLaws.{front_there}
-use Rattle.js_reading.specs.Reading.{is_sign, sees, same_line, at_end, goes_on_at, left_out, semicolon, do_end_by, do_end}
+use Rattle.js_reading.specs.Reading.{is_sign, sees, same_line, at_end, goes_on_at, left_out, semicolon, do_end_by, do_end, sees_word, is_word}
 use Rattle.js_reading.proofs.Opens.{begins}
 use Rattle.js_reading.proofs.TokensThere.{Seen, see, see_sign, sees_by, at_its_end, slash_there, is_slash_sign, tail_there}
 
@@ -54,6 +54,10 @@ not_at_end a h = go (at_end a) refl
 pub lexeme_sees : (s a : Text) (o : Option Lexeme) → lexeme a ≡ o → sees s a ≡ is_sign s o
 unfolding sees
 lexeme_sees s a o is = ap (is_sign s) is
+
+pub lexeme_sees_word : (x a : Text) (o : Option Lexeme) → lexeme a ≡ o → sees_word x a ≡ is_word x o
+unfolding sees_word
+lexeme_sees_word x a o is = ap (is_word x) is
 
 pub broken_line : {a m : Text} → Front true a m → same_line a ≡ false
 unfolding same_line

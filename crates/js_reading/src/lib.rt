@@ -2,7 +2,7 @@
 #![tactic(auto)]
 
 ghost use Rattle.js_reading.specs.Examples.{Examples};
-ghost use Rattle.js_reading.specs.Laws.{Sound};
+ghost use Rattle.js_reading.specs.Laws.{Complete, Sound, Unique};
 
 mod goal;
 
@@ -12,6 +12,18 @@ pub use goal::Goal;
 #[tactic(auto, using(crate::proofs::Sound::sound))]
 pub fn what_is_read_is_spelled()
     ensures { Sound }
+{}
+
+/// What a text spells as a module, of a depth of at most 512, is read of it.
+#[tactic(auto, using(crate::proofs::Complete::complete))]
+pub fn what_is_spelled_is_read()
+    ensures { Complete }
+{}
+
+/// A text spells at most one such module.
+#[tactic(auto, using(crate::proofs::Complete::unique))]
+pub fn one_module_is_spelled()
+    ensures { Unique }
 {}
 
 /// The worked texts are read, and small texts that spell no module are not.
