@@ -54,9 +54,9 @@ body_at t h c = only Kind.FunctionBody (λ z. Claim off z → (g : Lead) (rest :
 
 -- ---- flags
 
-abbrev pub past_async : Text → Lead → Lead
-past_async [] g = g
-past_async (c ∷ cs) g = spaced
+abbrev pub past_word : Text → Lead → Lead
+past_word [] g = g
+past_word (c ∷ cs) g = spaced
 
 abbrev pub past_star : Text → Lead → Lead
 past_star [] g = g
@@ -71,31 +71,31 @@ pub by_flag : (w : Text) (P : Text → Type 0) → ((b : Bool) → P (flag b w))
 by_flag w P f [] h = f false
 by_flag w P f (c ∷ cs) h = subst P (sym (one_word w (c ∷ cs) h refl)) (f true)
 
-pub async_at : (x : Text) → texts.flag (codes "async") x ≡ true → (g : Lead) (rest : Text) → begins_gap rest ≡ false → Async x (led g (flag (is_set x) (codes "async ") ++ rest)) (led (past_async x g) rest)
+pub async_at : (x : Text) → texts.flag (codes "async") x ≡ true → (g : Lead) (rest : Text) → begins_gap rest ≡ false → Async x (led g (flag (is_set x) (codes "async ") ++ rest)) (led (past_word x g) rest)
 async_at [] h g rest b = no_async
 async_at (c ∷ cs) h g rest b =
     subst (λ z. Async z (led g (codes "async " ++ rest)) (32 ∷ rest)) (sym (one_word (codes "async") (c ∷ cs) h refl)) (with_async (word_at g (codes "async") refl refl refl) (same_line spaced rest refl b))
 
 -- ---- functions
 
-free_word : (x : Text) → is_free_name x ≡ true → (rest : Text) → stops rest ≡ true → Naming (binding_of x) (32 ∷ (x ++ rest)) rest
+pub free_word : (x : Text) → is_free_name x ≡ true → (rest : Text) → stops rest ≡ true → Naming (binding_of x) (32 ∷ (x ++ rest)) rest
 free_word x h rest s = let both = and_parts (is_name x) (not (is_reserved x)) h in named (not-true (is_reserved x) both.1) (name_at spaced both.0 s)
 
 -- the function by its flags: `*` or none, a name or none
 function_with : (k : Kind) (async star : Text) (g : Lead) (ps body : Term) (p b : To) → texts.flag (codes "async") async ≡ true → texts.flag (codes "*") star ≡ true → ((l : Lead) (rest : Text) → Parameters true ps (led l (p rest)) rest) → ((rest : Text) → stops (p rest) ≡ true) → ((rest : Text) → starred (p rest) ≡ true) → ((l : Lead) (rest : Text) → Body body (led l (b rest)) rest) → (id : Term) → has_shape (Place.optional (Sort.only Kind.BindingIdentifier)) id ≡ true → (rest : Text) → FunctionText k (function_node k async star (wrapped true never id) ps body) (led g (flag (is_set async) (codes "async ") ++ (codes "function" ++ (flag (is_set star) (codes "*") ++ (flag (is_present id) (codes " ") ++ to true never id (p (32 ∷ b rest))))))) rest
 function_with k async [] g ps body p b ha hs fp sp st fb absent h rest =
-    function (async_at async ha g _ refl) (word_at (past_async async g) (codes "function") refl refl (sp (32 ∷ b rest))) no_star unnamed (fp flush (32 ∷ b rest)) (fb spaced rest)
+    function (async_at async ha g _ refl) (word_at (past_word async g) (codes "function") refl refl (sp (32 ∷ b rest))) no_star unnamed (fp flush (32 ∷ b rest)) (fb spaced rest)
 function_with k async (c ∷ cs) g ps body p b ha hs fp sp st fb absent h rest =
     subst (λ z. FunctionText k (function_node k async z absent ps body) (led g (flag (is_set async) (codes "async ") ++ (codes "function" ++ (codes "*" ++ p (32 ∷ b rest))))) rest) (sym (one_word (codes "*") (c ∷ cs) hs refl))
-    (function (async_at async ha g _ refl) (word_at (past_async async g) (codes "function") refl refl refl) (with_star (sign_at flush (codes "*") refl (st (32 ∷ b rest)))) unnamed (fp flush (32 ∷ b rest)) (fb spaced rest))
+    (function (async_at async ha g _ refl) (word_at (past_word async g) (codes "function") refl refl refl) (with_star (sign_at flush (codes "*") refl (st (32 ∷ b rest)))) unnamed (fp flush (32 ∷ b rest)) (fb spaced rest))
 function_with k async star g ps body p b ha hs fp sp st fb (list ts) h rest = differ (sym h)
 function_with k async [] g ps body p b ha hs fp sp st fb (node j xs us) h rest =
     leaf Kind.BindingIdentifier is_free_name refl refl (λ texts. refl) (λ z. FunctionText k (function_node k async [] (wrapped true never z) ps body) (led g (flag (is_set async) (codes "async ") ++ (codes "function" ++ 32 ∷ to true never z (p (32 ∷ b rest))))) rest) (λ x n.
-    function (async_at async ha g _ refl) (word_at (past_async async g) (codes "function") refl refl refl) no_star (free_word x n (p (32 ∷ b rest)) (sp (32 ∷ b rest))) (fp flush (32 ∷ b rest)) (fb spaced rest)) (node j xs us) h
+    function (async_at async ha g _ refl) (word_at (past_word async g) (codes "function") refl refl refl) no_star (free_word x n (p (32 ∷ b rest)) (sp (32 ∷ b rest))) (fp flush (32 ∷ b rest)) (fb spaced rest)) (node j xs us) h
 function_with k async (c ∷ cs) g ps body p b ha hs fp sp st fb (node j xs us) h rest =
     subst (λ y. FunctionText k (function_node k async y (wrapped true never (node j xs us)) ps body) (led g (flag (is_set async) (codes "async ") ++ (codes "function" ++ (codes "*" ++ 32 ∷ to true never (node j xs us) (p (32 ∷ b rest)))))) rest) (sym (one_word (codes "*") (c ∷ cs) hs refl))
     (leaf Kind.BindingIdentifier is_free_name refl refl (λ texts. refl) (λ z. FunctionText k (function_node k async (codes "*") (wrapped true never z) ps body) (led g (flag (is_set async) (codes "async ") ++ (codes "function" ++ (codes "*" ++ 32 ∷ to true never z (p (32 ∷ b rest)))))) rest) (λ x n.
-    function (async_at async ha g _ refl) (word_at (past_async async g) (codes "function") refl refl refl) (with_star (sign_at flush (codes "*") refl refl)) (free_word x n (p (32 ∷ b rest)) (sp (32 ∷ b rest))) (fp flush (32 ∷ b rest)) (fb spaced rest)) (node j xs us) h)
+    function (async_at async ha g _ refl) (word_at (past_word async g) (codes "function") refl refl refl) (with_star (sign_at flush (codes "*") refl refl)) (free_word x n (p (32 ∷ b rest)) (sp (32 ∷ b rest))) (fp flush (32 ∷ b rest)) (fb spaced rest)) (node j xs us) h)
 
 pub declaration_is : (name : Place) → ((id : Term) → has_shape name id ≡ true → has_shape (Place.optional (Sort.only Kind.BindingIdentifier)) id ≡ true) → (xs : List Text) (ts : Terms) → Fit (function_places name) Kind.FunctionDeclaration xs ts → Kids (λ n. off) 0 ts → (g : Lead) (rest : Text) → FunctionText Kind.FunctionDeclaration (bare true (node Kind.FunctionDeclaration xs ts)) (led g (bare_to true (node Kind.FunctionDeclaration xs ts) rest)) rest
 declaration_is name into (async ∷ star ∷ []) (more id (more ps (more body none))) f c g rest =

@@ -21,6 +21,7 @@ pub mod Functions
 pub mod Objects
 pub mod Bodies
 pub mod Statements
+pub mod Classes
 pub mod Heads
 pub mod Quiet
 pub mod Whole
