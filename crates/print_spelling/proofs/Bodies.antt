@@ -64,14 +64,14 @@ statement_kind Kind.ClassDeclaration h = class_kind refl
 statement_kind k h = plain_kind h
 
 -- a declaration has a name
-named_function : (ts : Terms) (texts : List Text) → Fit (Place.one (Sort.only Kind.BindingIdentifier) ∷ Place.one (Sort.only Kind.FormalParameters) ∷ Place.one (Sort.only Kind.FunctionBody) ∷ []) Kind.FunctionDeclaration texts ts → is_unnamed (wrapped true never (node Kind.FunctionDeclaration texts ts)) ≡ false
+pub named_function : (ts : Terms) (texts : List Text) → Fit (Place.one (Sort.only Kind.BindingIdentifier) ∷ Place.one (Sort.only Kind.FormalParameters) ∷ Place.one (Sort.only Kind.FunctionBody) ∷ []) Kind.FunctionDeclaration texts ts → is_unnamed (wrapped true never (node Kind.FunctionDeclaration texts ts)) ≡ false
 named_function (more id ts) texts f = rw (wrapped_present true never id (one_whole (Sort.only Kind.BindingIdentifier) id f.placed.0)) refl
 named_function none [] f = differ (sym f.counted)
 named_function none (x ∷ []) f = differ (sym f.counted)
 named_function none (x ∷ y ∷ []) f = differ (sym f.counted)
 named_function none (x ∷ y ∷ z ∷ zs) f = differ (sym f.counted)
 
-named_class : (ts : Terms) (texts : List Text) → Fit (Place.one (Sort.only Kind.BindingIdentifier) ∷ Place.optional Sort.expression ∷ Place.one (Sort.only Kind.ClassBody) ∷ []) Kind.ClassDeclaration texts ts → is_unnamed (wrapped true never (node Kind.ClassDeclaration texts ts)) ≡ false
+pub named_class : (ts : Terms) (texts : List Text) → Fit (Place.one (Sort.only Kind.BindingIdentifier) ∷ Place.optional Sort.expression ∷ Place.one (Sort.only Kind.ClassBody) ∷ []) Kind.ClassDeclaration texts ts → is_unnamed (wrapped true never (node Kind.ClassDeclaration texts ts)) ≡ false
 named_class (more id ts) texts f = rw (wrapped_present true never id (one_whole (Sort.only Kind.BindingIdentifier) id f.placed.0)) refl
 named_class none [] f = differ (sym f.counted)
 named_class none (x ∷ xs) f = differ (sym f.counted)
