@@ -22,6 +22,7 @@ pub mod Objects
 pub mod Bodies
 pub mod Statements
 pub mod Classes
+pub mod Specifiers
 pub mod Heads
 pub mod Quiet
 pub mod Whole
