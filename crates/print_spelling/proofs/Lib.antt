@@ -23,6 +23,7 @@ pub mod Bodies
 pub mod Statements
 pub mod Classes
 pub mod Specifiers
+pub mod Items
 pub mod Heads
 pub mod Quiet
 pub mod Whole
