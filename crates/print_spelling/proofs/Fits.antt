@@ -40,7 +40,7 @@ pub record Fit (ps : List Place) (k : Kind) (texts : List Text) (ts : Terms) : T
 suc_same : (m n : ℕ) → nat_eq (suc m) (suc n) ≡ true → nat_eq m n ≡ true
 suc_same m n e = grind arith
 
-abbrev kids_shaped : (ℕ → Place) → ℕ → Terms → Bool
+abbrev pub kids_shaped : (ℕ → Place) → ℕ → Terms → Bool
 kids_shaped = everywhere_kids place_inside item_place fits takes_list takes_absent
 
 placed_from : (around : ℕ → Place) (n : ℕ) (ps : List Place) (ts : Terms) → ((j m : ℕ) → m ≡ j + n → around m ≡ place_at j ps) → nat_eq (count ts) (length ps) ≡ true → kids_shaped around n ts ≡ true → (are_many ps ts ≡ true) × Placed ps ts

@@ -27,3 +27,4 @@ pub mod Items
 pub mod Heads
 pub mod Quiet
 pub mod Whole
+pub mod Trees
