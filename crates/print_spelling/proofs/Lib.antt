@@ -28,3 +28,5 @@ pub mod Heads
 pub mod Quiet
 pub mod Whole
 pub mod Trees
+pub mod Stripped
+pub mod Program
