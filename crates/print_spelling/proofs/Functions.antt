@@ -1,13 +1,12 @@
 -- Functions, arrows and the functions of methods (ECMAScript 15.2 to 15.4, 15.8).
-use Rattle.std.proofs.Common.{◌≡◌, refl, sym, subst, List, [], ◌∷◌, ◌++◌, Bool, true, false, not, ◌&&◌, ◌||◌, inl, inr, ◌⊎◌}
+use Rattle.std.proofs.Common.{◌≡◌, refl, sym, subst, List, [], ◌∷◌, ◌++◌, Bool, true, false, ◌&&◌, ◌||◌, inl, inr, ◌⊎◌}
 use Rattle.std.specs.Prelude.{codes}
-use Rattle.std.proofs.lemmas.Bool.{and_parts, not-true}
 use Rattle.js_term.specs.Term.{Text, is_text, Term, absent, list, node, Terms, none, more, flag}
 use Rattle.js_term.specs.declared.kind.Kind.{Kind}
-use Rattle.js_term.specs.Lexeme.{is_reserved, is_one_of}
+use Rattle.js_term.specs.Lexeme.{is_one_of}
 use Rattle.js_syntax.specs.Tokens.{signs, opens_with, is_longest}
 use Rattle.js_term.specs.Node.{binding_of}
-use Rattle.js_syntax.specs.Lexical.{begins_gap, is_name}
+use Rattle.js_syntax.specs.Lexical.{begins_gap}
 use Rattle.js_syntax.specs.Texts as texts
 use Rattle.js_syntax.specs.Texts.{is_free_name}
 use Rattle.js_syntax.specs.Parts.{is_set, is_present}
@@ -27,6 +26,7 @@ use Rattle.print_spelling.proofs.Shapes.{only, leaf}
 use Rattle.print_spelling.proofs.Claims.{bare, bare_to, ends, through, opens_at, NodeExpr, ExpressionRule, of_stands, Claim, Kids, off}
 use Rattle.print_spelling.proofs.Placed.{in_place_node, expression_meaning, loose_le, at_by}
 use Rattle.print_spelling.proofs.Fronts.{opens_body}
+use Rattle.print_spelling.proofs.Leaves.{free_parts}
 
 -- ---- parameters and bodies
 
@@ -79,7 +79,7 @@ async_at (c ∷ cs) h g rest b =
 -- ---- functions
 
 pub free_word : (x : Text) → is_free_name x ≡ true → (rest : Text) → stops rest ≡ true → Naming (binding_of x) (32 ∷ (x ++ rest)) rest
-free_word x h rest s = let both = and_parts (is_name x) (not (is_reserved x)) h in named (not-true (is_reserved x) both.1) (name_at spaced both.0 s)
+free_word x h rest s = let n = free_parts x h in named n.1 (name_at spaced n.0 s)
 
 -- the function by its flags: `*` or none, a name or none
 function_with : (k : Kind) (async star : Text) (g : Lead) (ps body : Term) (p b : To) → texts.flag (codes "async") async ≡ true → texts.flag (codes "*") star ≡ true → ((l : Lead) (rest : Text) → Parameters true ps (led l (p rest)) rest) → ((rest : Text) → stops (p rest) ≡ true) → ((rest : Text) → starred (p rest) ≡ true) → ((l : Lead) (rest : Text) → Body body (led l (b rest)) rest) → (id : Term) → has_shape (Place.optional (Sort.only Kind.BindingIdentifier)) id ≡ true → (rest : Text) → FunctionText k (function_node k async star (wrapped true never id) ps body) (led g (flag (is_set async) (codes "async ") ++ (codes "function" ++ (flag (is_set star) (codes "*") ++ (flag (is_present id) (codes " ") ++ to true never id (p (32 ∷ b rest))))))) rest

@@ -15,6 +15,7 @@ pub mod Fronts
 pub mod Assignments
 pub mod Keys
 pub mod Patterns
+pub mod Pairs
 pub mod ObjectPatterns
 pub mod ObjectTargets
 pub mod Functions

@@ -29,7 +29,8 @@ use Rattle.print_spelling.proofs.Lists.{ItemAt, one_whole, last_present, whole_l
 use Rattle.print_spelling.proofs.Calls.{argument_is}
 use Rattle.print_spelling.proofs.Keys.{KeyAt, Starred, key_at, key_public, key_starred}
 use Rattle.print_spelling.proofs.Patterns.{closing_flag}
-use Rattle.print_spelling.proofs.ObjectPatterns.{IsBound, free_parts, key_name, no_name}
+use Rattle.print_spelling.proofs.Leaves.{free_parts}
+use Rattle.print_spelling.proofs.Pairs.{IsBound, key_name, no_name}
 use Rattle.print_spelling.proofs.ObjectTargets.{bound_identifier}
 use Rattle.print_spelling.proofs.Functions.{parameters_at, parameters_end, body_at, past_word, past_star, one_word, by_flag, async_at}
 

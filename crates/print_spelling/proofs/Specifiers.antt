@@ -21,7 +21,7 @@ use Rattle.print_spelling.proofs.Tokens.{differ, same_text, Lead, flush, spaced,
 use Rattle.print_spelling.proofs.Spread.{To, to, each_to, items_to, separated_to, spread_to}
 use Rattle.print_spelling.proofs.Fits.{Fit, fit_of, taken_by, each_shaped, is_program, are_words, are_many, Placed}
 use Rattle.print_spelling.proofs.Shapes.{kind_is, only, leaf, leaf_at}
-use Rattle.print_spelling.proofs.ObjectPatterns.{free_parts}
+use Rattle.print_spelling.proofs.Leaves.{free_parts}
 
 -- ---- names that are exported: a name or a string
 

@@ -4,7 +4,7 @@ use Rattle.std.specs.Prelude.{codes}
 use Rattle.std.proofs.lemmas.Bool.{and_parts, not-true}
 use Rattle.js_term.specs.Term.{Text, Term, absent, list, node, Terms, none, more, one}
 use Rattle.js_term.specs.declared.kind.Kind.{Kind}
-use Rattle.js_term.specs.Lexeme.{is_one_of, is_reserved}
+use Rattle.js_term.specs.Lexeme.{is_one_of}
 use Rattle.js_syntax.specs.Lexical.{begins_gap, is_name}
 use Rattle.js_syntax.specs.Tokens.{Word}
 use Rattle.js_syntax.specs.Texts.{is_free_name}
@@ -25,6 +25,7 @@ use Rattle.print_spelling.proofs.Shapes.{kind_is, only, leaf}
 use Rattle.print_spelling.proofs.Claims.{bare, bare_to, ends, spaced_line, Claim, Each, Kids, Mode, off, Rule, Meaning, a_declarator}
 use Rattle.print_spelling.proofs.Claims as claims
 use Rattle.print_spelling.proofs.Placed.{in_place}
+use Rattle.print_spelling.proofs.Leaves.{free_parts}
 use Rattle.print_spelling.proofs.Lists.{ItemAt, one_whole, whole_list}
 use Rattle.print_spelling.proofs.Fronts.{is_item, opens_statement}
 use Rattle.print_spelling.proofs.Patterns.{pattern_at, declarator_with}
@@ -110,19 +111,16 @@ while_rule m texts ts f c g rest = differ (sym f.counted)
 
 -- ---- labels
 
-free : (x : Text) → is_free_name x ≡ true → (is_name x ≡ true) × (is_reserved x ≡ false)
-free x h = let both = and_parts (is_name x) (not (is_reserved x)) h in (both.0, not-true (is_reserved x) both.1)
-
 label_line : (x rest : Text) → is_name x ≡ true → begins_gap (x ++ rest) ≡ false
 label_line x rest n = opening_gap (x ++ rest) (name_opening x rest n)
 
 pub labeled_rule : Rule Kind.LabeledStatement
 labeled_rule m [] (more l (more s none)) f c g rest =
-    leaf Kind.LabelIdentifier is_free_name refl refl (λ texts. refl) (λ z. Statement (bare true (of_parts Kind.LabeledStatement z s)) (led g (bare_to true (of_parts Kind.LabeledStatement z s) rest)) rest) (λ x h. let n = free x h in labeled n.1 (name_at g n.0 refl) (colon_at flush) (embedded_at s f.placed.1.0 c.1.0 spaced rest)) l f.placed.0
+    leaf Kind.LabelIdentifier is_free_name refl refl (λ texts. refl) (λ z. Statement (bare true (of_parts Kind.LabeledStatement z s)) (led g (bare_to true (of_parts Kind.LabeledStatement z s) rest)) rest) (λ x h. let n = free_parts x h in labeled n.1 (name_at g n.0 refl) (colon_at flush) (embedded_at s f.placed.1.0 c.1.0 spaced rest)) l f.placed.0
 labeled_rule m texts ts f c g rest = differ (sym f.counted)
 
 label_at : (x : Text) → is_free_name x ≡ true → (rest : Text) → Label (label_of x) (32 ∷ (x ++ 59 ∷ rest)) (59 ∷ rest)
-label_at x h rest = let n = free x h in a_label n.1 (same_line spaced (x ++ 59 ∷ rest) refl (label_line x (59 ∷ rest) n.0)) (name_at spaced n.0 refl)
+label_at x h rest = let n = free_parts x h in a_label n.1 (same_line spaced (x ++ 59 ∷ rest) refl (label_line x (59 ∷ rest) n.0)) (name_at spaced n.0 refl)
 
 pub break_rule : Rule Kind.BreakStatement
 break_rule m [] (more absent none) f c g rest = break_statement (word_at g (codes "break") refl refl refl) no_label (written (semicolon_at flush))
