@@ -13,18 +13,18 @@ use Rattle.js_syntax.specs.Edges.{is_constructor}
 use Rattle.js_syntax.specs.Sorts.{Sort, Place, class_elements}
 use Rattle.js_syntax.specs.Places.{places, class_places, key_place, method_place}
 use Rattle.js_syntax.specs.Printable.{has_shape, is_constructor_key, is_method_definition}
-use Rattle.js_syntax.specs.Spelling.{ClassText, class, Naming, unnamed, Heritage, no_heritage, heritage, Elements, no_elements, next_element, ClassElement, static_block, constructor_element, method_element, accessor_element, field_element, Static, no_static, with_static, Initializer, no_initializer, initializer, getter, setter, no_statements, written, class_expression}
+use Rattle.js_syntax.specs.Spelling.{ClassText, class, Heritage, no_heritage, heritage, Elements, no_elements, next_element, ClassElement, static_block, constructor_element, method_element, accessor_element, field_element, Static, no_static, with_static, Initializer, no_initializer, initializer, getter, setter, no_statements, written, class_expression}
 use Rattle.print_layout.specs.Rows.{blank}
 use Rattle.print_layout.specs.Needs.{never, is_held}
 use Rattle.print_layout.specs.Layout.{put, wrapped, each_wrapped}
 use Rattle.print_spelling.proofs.Tokens.{differ, same_text, or_by, Lead, flush, spaced, led, stops, sign_at, word_at, left_brace, right_brace, semicolon_at}
 use Rattle.print_spelling.proofs.Spread.{to, each_to, separated_to, method_to}
 use Rattle.print_spelling.proofs.Fits.{Fit, fit_of, taken_by, list_shape, each_shaped}
-use Rattle.print_spelling.proofs.Shapes.{only, leaf}
+use Rattle.print_spelling.proofs.Shapes.{only}
 use Rattle.print_spelling.proofs.Claims.{bare, bare_to, ends, opens_at, NodeExpr, of_stands, Claim, Each, Kids, Mode, off, Rule, Meaning, an_element, category}
 use Rattle.print_spelling.proofs.Placed.{loose, at}
 use Rattle.print_spelling.proofs.Keys.{MemberKeyAt, Starred, member_key_at, member_key_starred}
-use Rattle.print_spelling.proofs.Functions.{past_word, one_word, by_flag, free_word}
+use Rattle.print_spelling.proofs.Functions.{past_word, one_word, by_flag, naming_at, part_stops}
 use Rattle.print_spelling.proofs.Objects.{MethodAt, PlainMethod, method_at, plain_method_at, accessor_word, method_with}
 use Rattle.print_spelling.proofs.Bodies.{statements_at}
 
@@ -49,21 +49,10 @@ elements_at t (more u us) h c g rest =
 
 -- ---- class x extends e { es }
 
-naming_at : (id : Term) → has_shape (Place.optional (Sort.only Kind.BindingIdentifier)) id ≡ true → (rest : Text) → stops rest ≡ true → Naming (wrapped true never id) (flag (is_present id) (codes " ") ++ to true never id rest) rest
-naming_at absent h rest s = unnamed
-naming_at (list ts) h rest s = differ (sym h)
-naming_at (node k xs ts) h rest s = leaf Kind.BindingIdentifier is_free_name refl refl (λ texts. refl) (λ z. Naming (wrapped true never z) (32 ∷ to true never z rest) rest) (λ x n. free_word x n rest s) (node k xs ts) h
-
 heritage_at : (h : Term) → has_shape (Place.optional Sort.expression) h ≡ true → Claim off h → (rest : Text) → Heritage (wrapped true (loose 18) h) (flag (is_present h) (codes " extends ") ++ to true (loose 18) h (32 ∷ rest)) (32 ∷ rest)
 heritage_at absent h c rest = no_heritage
 heritage_at (list ts) h c rest = differ (sym h)
 heritage_at (node k xs ts) h c rest = let p = at 18 refl true (node k xs ts) h c in heritage (word_at spaced (codes "extends") refl refl refl) p.high (p.stands spaced refl)
-
--- what stands behind a word: a part behind a blank, or what stands behind it
-part_stops : (need : Term → Bool) (t : Term) (word rest : Text) → stops rest ≡ true → stops (flag (is_present t) (32 ∷ word) ++ to true need t rest) ≡ true
-part_stops need absent word rest s = s
-part_stops need (list ts) word rest s = refl
-part_stops need (node k xs ts) word rest s = refl
 
 abbrev ClassAt : Kind → Term → Term → Term → Type 0
 ClassAt k id h body = (g : Lead) (rest : Text) → ClassText k (node k [] (three (wrapped true never id) (wrapped true (loose 18) h) (wrapped true never body))) (led g (codes "class" ++ (flag (is_present id) (codes " ") ++ to true never id (flag (is_present h) (codes " extends ") ++ to true (loose 18) h (32 ∷ to true never body rest))))) rest
