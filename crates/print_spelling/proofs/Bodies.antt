@@ -76,8 +76,8 @@ named_class (more id ts) texts f = rw (wrapped_present true never id (one_whole 
 named_class none [] f = differ (sym f.counted)
 named_class none (x ∷ xs) f = differ (sym f.counted)
 
-pub statement_by : (s : Sort) (k : Kind) (texts : List Text) (ts : Terms) → has_shape (Place.one Sort.statement) (node k texts ts) ≡ true → Claim off (node k texts ts) → StatementAt (node k texts ts)
-statement_by s k texts ts h c = elim (statement_kind k (taken_by Sort.statement k texts ts h).taken) as (λ z. StatementAt (node k texts ts)) [
+pub statement_by : (k : Kind) (texts : List Text) (ts : Terms) → has_shape (Place.one Sort.statement) (node k texts ts) ≡ true → Claim off (node k texts ts) → StatementAt (node k texts ts)
+statement_by k texts ts h c = elim (statement_kind k (taken_by Sort.statement k texts ts h).taken) as (λ z. StatementAt (node k texts ts)) [
   | function_kind e ↦ subst (λ j. has_shape (Place.one Sort.statement) (node j texts ts) ≡ true → Claim off (node j texts ts) → StatementAt (node j texts ts)) (sym e) (λ h c g rest. declaration (function_declaration (named_function ts texts (fit_of Sort.statement Kind.FunctionDeclaration texts ts refl h).1) (c.0 g rest))) h c
   | class_kind e ↦ subst (λ j. has_shape (Place.one Sort.statement) (node j texts ts) ≡ true → Claim off (node j texts ts) → StatementAt (node j texts ts)) (sym e) (λ h c g rest. declaration (class_declaration (named_class ts texts (fit_of Sort.statement Kind.ClassDeclaration texts ts refl h).1) (c.0 g rest))) h c
   | plain_kind p ↦ plain_statement k texts ts p c
@@ -86,7 +86,7 @@ statement_by s k texts ts h c = elim (statement_kind k (taken_by Sort.statement 
 pub statement_at : (t : Term) → has_shape (Place.one Sort.statement) t ≡ true → Claim off t → StatementAt t
 statement_at absent h c = differ (sym h)
 statement_at (list ts) h c = differ (sym h)
-statement_at (node k texts ts) h c = statement_by Sort.statement k texts ts h c
+statement_at (node k texts ts) h c = statement_by k texts ts h c
 
 pub embedded_at : (t : Term) → has_shape (Place.one Sort.body) t ≡ true → Claim off t → (g : Lead) (rest : Text) → Embedded (wrapped true never t) (led g (to true never t rest)) rest
 embedded_at absent h c g rest = differ (sym h)

@@ -213,7 +213,7 @@ item_at (node k xs ts) h c = by (is_among k module_declarations) refl
   where
     by : (b : Bool) → is_among k module_declarations ≡ b → (g : Lead) (rest : Text) → ModuleItem (wrapped true never (node k xs ts)) (led g (to true never (node k xs ts) rest)) rest
     by true e = item_meaning off k (node k xs ts) e c.0
-    by false e = λ g rest. statement (statement_by Sort.statement k xs ts (statement_shape k xs ts (subst (λ b. b || is_statement k ≡ true) e (taken_by Sort.module_item k xs ts h).taken) h) c g rest)
+    by false e = λ g rest. statement (statement_by k xs ts (statement_shape k xs ts (subst (λ b. b || is_statement k ≡ true) e (taken_by Sort.module_item k xs ts h).taken) h) c g rest)
 
 pub items_at : (t : Term) (ts : Terms) → each_shaped (Place.one Sort.module_item) (more t ts) ≡ true → Each off (more t ts) → (g : Lead) (rest : Text) → ModuleItems (each_wrapped true never (more t ts)) (led g (separated_to line (each_to true never (more t ts)) rest)) rest
 items_at t none h c g rest = next_item (item_at t (and_parts (has_shape (Place.one Sort.module_item) t) true h).0 c.0 g rest) no_more_items
