@@ -64,20 +64,20 @@ statement_kind Kind.ClassDeclaration h = class_kind refl
 statement_kind k h = plain_kind h
 
 -- a declaration has a name
-named_function : (ts : Terms) (texts : List Text) → Fit (Place.one (Sort.only Kind.BindingIdentifier) ∷ Place.one (Sort.only Kind.FormalParameters) ∷ Place.one (Sort.only Kind.FunctionBody) ∷ []) Kind.FunctionDeclaration texts ts → is_unnamed (wrapped true never (node Kind.FunctionDeclaration texts ts)) ≡ false
+pub named_function : (ts : Terms) (texts : List Text) → Fit (Place.one (Sort.only Kind.BindingIdentifier) ∷ Place.one (Sort.only Kind.FormalParameters) ∷ Place.one (Sort.only Kind.FunctionBody) ∷ []) Kind.FunctionDeclaration texts ts → is_unnamed (wrapped true never (node Kind.FunctionDeclaration texts ts)) ≡ false
 named_function (more id ts) texts f = rw (wrapped_present true never id (one_whole (Sort.only Kind.BindingIdentifier) id f.placed.0)) refl
 named_function none [] f = differ (sym f.counted)
 named_function none (x ∷ []) f = differ (sym f.counted)
 named_function none (x ∷ y ∷ []) f = differ (sym f.counted)
 named_function none (x ∷ y ∷ z ∷ zs) f = differ (sym f.counted)
 
-named_class : (ts : Terms) (texts : List Text) → Fit (Place.one (Sort.only Kind.BindingIdentifier) ∷ Place.optional Sort.expression ∷ Place.one (Sort.only Kind.ClassBody) ∷ []) Kind.ClassDeclaration texts ts → is_unnamed (wrapped true never (node Kind.ClassDeclaration texts ts)) ≡ false
+pub named_class : (ts : Terms) (texts : List Text) → Fit (Place.one (Sort.only Kind.BindingIdentifier) ∷ Place.optional Sort.expression ∷ Place.one (Sort.only Kind.ClassBody) ∷ []) Kind.ClassDeclaration texts ts → is_unnamed (wrapped true never (node Kind.ClassDeclaration texts ts)) ≡ false
 named_class (more id ts) texts f = rw (wrapped_present true never id (one_whole (Sort.only Kind.BindingIdentifier) id f.placed.0)) refl
 named_class none [] f = differ (sym f.counted)
 named_class none (x ∷ xs) f = differ (sym f.counted)
 
-pub statement_by : (s : Sort) (k : Kind) (texts : List Text) (ts : Terms) → has_shape (Place.one Sort.statement) (node k texts ts) ≡ true → Claim off (node k texts ts) → StatementAt (node k texts ts)
-statement_by s k texts ts h c = elim (statement_kind k (taken_by Sort.statement k texts ts h).taken) as (λ z. StatementAt (node k texts ts)) [
+pub statement_by : (k : Kind) (texts : List Text) (ts : Terms) → has_shape (Place.one Sort.statement) (node k texts ts) ≡ true → Claim off (node k texts ts) → StatementAt (node k texts ts)
+statement_by k texts ts h c = elim (statement_kind k (taken_by Sort.statement k texts ts h).taken) as (λ z. StatementAt (node k texts ts)) [
   | function_kind e ↦ subst (λ j. has_shape (Place.one Sort.statement) (node j texts ts) ≡ true → Claim off (node j texts ts) → StatementAt (node j texts ts)) (sym e) (λ h c g rest. declaration (function_declaration (named_function ts texts (fit_of Sort.statement Kind.FunctionDeclaration texts ts refl h).1) (c.0 g rest))) h c
   | class_kind e ↦ subst (λ j. has_shape (Place.one Sort.statement) (node j texts ts) ≡ true → Claim off (node j texts ts) → StatementAt (node j texts ts)) (sym e) (λ h c g rest. declaration (class_declaration (named_class ts texts (fit_of Sort.statement Kind.ClassDeclaration texts ts refl h).1) (c.0 g rest))) h c
   | plain_kind p ↦ plain_statement k texts ts p c
@@ -86,7 +86,7 @@ statement_by s k texts ts h c = elim (statement_kind k (taken_by Sort.statement 
 pub statement_at : (t : Term) → has_shape (Place.one Sort.statement) t ≡ true → Claim off t → StatementAt t
 statement_at absent h c = differ (sym h)
 statement_at (list ts) h c = differ (sym h)
-statement_at (node k texts ts) h c = statement_by Sort.statement k texts ts h c
+statement_at (node k texts ts) h c = statement_by k texts ts h c
 
 pub embedded_at : (t : Term) → has_shape (Place.one Sort.body) t ≡ true → Claim off t → (g : Lead) (rest : Text) → Embedded (wrapped true never t) (led g (to true never t rest)) rest
 embedded_at absent h c g rest = differ (sym h)

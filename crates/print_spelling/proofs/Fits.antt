@@ -40,7 +40,7 @@ pub record Fit (ps : List Place) (k : Kind) (texts : List Text) (ts : Terms) : T
 suc_same : (m n : ℕ) → nat_eq (suc m) (suc n) ≡ true → nat_eq m n ≡ true
 suc_same m n e = grind arith
 
-abbrev kids_shaped : (ℕ → Place) → ℕ → Terms → Bool
+abbrev pub kids_shaped : (ℕ → Place) → ℕ → Terms → Bool
 kids_shaped = everywhere_kids place_inside item_place fits takes_list takes_absent
 
 placed_from : (around : ℕ → Place) (n : ℕ) (ps : List Place) (ts : Terms) → ((j m : ℕ) → m ≡ j + n → around m ≡ place_at j ps) → nat_eq (count ts) (length ps) ≡ true → kids_shaped around n ts ≡ true → (are_many ps ts ≡ true) × Placed ps ts
@@ -79,18 +79,6 @@ pub record Taken (s : Sort) (k : Kind) (texts : List Text) : Type 0 where
   pub taken : takes s k ≡ true
   pub suited : suits s k texts ≡ true
 
-pub fit_of : (s : Sort) (k : Kind) (texts : List Text) (ts : Terms) → is_program k ≡ false → has_shape (Place.one s) (node k texts ts) ≡ true → Taken s k texts × Fit (places_at s k texts) k texts ts
-fit_of s k texts ts e h =
-    let both = and_parts (fits (Place.one s) k texts ts) _ h in
-    let a = and_parts _ (is_sound k texts ts) both.0 in
-    let b = and_parts _ (are_as_many (places_at s k texts) ts) a.0 in
-    let c = and_parts _ (has_texts k texts) b.0 in
-    let d = and_parts (takes s k) (suits s k texts) c.0 in
-    let f = placed_from (λ n. place_at n (places_at s k texts)) 0 (places_at s k texts) ts (λ j m e. ap (λ z. place_at z (places_at s k texts)) (e ∙ plus_zero j)) b.1 both.1 in
-    let w = and_parts (nat_eq (length texts) (length (tests k))) _ (passed k texts e c.1) in
-    let g = worded_from texts 0 (tests k) texts (λ j m e. ap (λ z. text_at z texts) (e ∙ plus_zero j)) w.0 w.1 in
-    (record { taken = d.0; suited = d.1 }, record { counted = rw (g.0, f.0) refl; spoken = g.1; placed = f.1; sound = a.1 })
-
 pub taken_by : (s : Sort) (k : Kind) (texts : List Text) (ts : Terms) → has_shape (Place.one s) (node k texts ts) ≡ true → Taken s k texts
 taken_by s k texts ts h =
     let both = and_parts (fits (Place.one s) k texts ts) _ h in
@@ -99,6 +87,25 @@ taken_by s k texts ts h =
     let c = and_parts _ (has_texts k texts) b.0 in
     let d = and_parts (takes s k) (suits s k texts) c.0 in
     record { taken = d.0; suited = d.1 }
+
+-- the parts of a node that has its shape
+pub placed_of : (s : Sort) (k : Kind) (texts : List Text) (ts : Terms) → has_shape (Place.one s) (node k texts ts) ≡ true → (are_many (places_at s k texts) ts ≡ true) × Placed (places_at s k texts) ts
+placed_of s k texts ts h =
+    let both = and_parts (fits (Place.one s) k texts ts) _ h in
+    let a = and_parts _ (is_sound k texts ts) both.0 in
+    let b = and_parts _ (are_as_many (places_at s k texts) ts) a.0 in
+    placed_from (λ n. place_at n (places_at s k texts)) 0 (places_at s k texts) ts (λ j m e. ap (λ z. place_at z (places_at s k texts)) (e ∙ plus_zero j)) b.1 both.1
+
+pub fit_of : (s : Sort) (k : Kind) (texts : List Text) (ts : Terms) → is_program k ≡ false → has_shape (Place.one s) (node k texts ts) ≡ true → Taken s k texts × Fit (places_at s k texts) k texts ts
+fit_of s k texts ts e h =
+    let both = and_parts (fits (Place.one s) k texts ts) _ h in
+    let a = and_parts _ (is_sound k texts ts) both.0 in
+    let b = and_parts _ (are_as_many (places_at s k texts) ts) a.0 in
+    let c = and_parts _ (has_texts k texts) b.0 in
+    let f = placed_of s k texts ts h in
+    let w = and_parts (nat_eq (length texts) (length (tests k))) _ (passed k texts e c.1) in
+    let g = worded_from texts 0 (tests k) texts (λ j m e. ap (λ z. text_at z texts) (e ∙ plus_zero j)) w.0 w.1 in
+    (taken_by s k texts ts h, record { counted = rw (g.0, f.0) refl; spoken = g.1; placed = f.1; sound = a.1 })
 
 -- kinds whose parts' places are a matter of their own place
 abbrev pub is_special : Kind → Bool

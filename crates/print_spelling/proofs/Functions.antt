@@ -1,13 +1,12 @@
 -- Functions, arrows and the functions of methods (ECMAScript 15.2 to 15.4, 15.8).
-use Rattle.std.proofs.Common.{◌≡◌, refl, sym, subst, List, [], ◌∷◌, ◌++◌, Bool, true, false, not, ◌&&◌, ◌||◌, inl, inr, ◌⊎◌}
+use Rattle.std.proofs.Common.{◌≡◌, refl, sym, subst, List, [], ◌∷◌, ◌++◌, Bool, true, false, ◌&&◌, ◌||◌, inl, inr, ◌⊎◌}
 use Rattle.std.specs.Prelude.{codes}
-use Rattle.std.proofs.lemmas.Bool.{and_parts, not-true}
 use Rattle.js_term.specs.Term.{Text, is_text, Term, absent, list, node, Terms, none, more, flag}
 use Rattle.js_term.specs.declared.kind.Kind.{Kind}
-use Rattle.js_term.specs.Lexeme.{is_reserved, is_one_of}
+use Rattle.js_term.specs.Lexeme.{is_one_of}
 use Rattle.js_syntax.specs.Tokens.{signs, opens_with, is_longest}
 use Rattle.js_term.specs.Node.{binding_of}
-use Rattle.js_syntax.specs.Lexical.{begins_gap, is_name}
+use Rattle.js_syntax.specs.Lexical.{begins_gap}
 use Rattle.js_syntax.specs.Texts as texts
 use Rattle.js_syntax.specs.Texts.{is_free_name}
 use Rattle.js_syntax.specs.Parts.{is_set, is_present}
@@ -27,6 +26,7 @@ use Rattle.print_spelling.proofs.Shapes.{only, leaf}
 use Rattle.print_spelling.proofs.Claims.{bare, bare_to, ends, through, opens_at, NodeExpr, ExpressionRule, of_stands, Claim, Kids, off}
 use Rattle.print_spelling.proofs.Placed.{in_place_node, expression_meaning, loose_le, at_by}
 use Rattle.print_spelling.proofs.Fronts.{opens_body}
+use Rattle.print_spelling.proofs.Leaves.{free_parts}
 
 -- ---- parameters and bodies
 
@@ -54,9 +54,9 @@ body_at t h c = only Kind.FunctionBody (λ z. Claim off z → (g : Lead) (rest :
 
 -- ---- flags
 
-abbrev pub past_async : Text → Lead → Lead
-past_async [] g = g
-past_async (c ∷ cs) g = spaced
+abbrev pub past_word : Text → Lead → Lead
+past_word [] g = g
+past_word (c ∷ cs) g = spaced
 
 abbrev pub past_star : Text → Lead → Lead
 past_star [] g = g
@@ -71,7 +71,7 @@ pub by_flag : (w : Text) (P : Text → Type 0) → ((b : Bool) → P (flag b w))
 by_flag w P f [] h = f false
 by_flag w P f (c ∷ cs) h = subst P (sym (one_word w (c ∷ cs) h refl)) (f true)
 
-pub async_at : (x : Text) → texts.flag (codes "async") x ≡ true → (g : Lead) (rest : Text) → begins_gap rest ≡ false → Async x (led g (flag (is_set x) (codes "async ") ++ rest)) (led (past_async x g) rest)
+pub async_at : (x : Text) → texts.flag (codes "async") x ≡ true → (g : Lead) (rest : Text) → begins_gap rest ≡ false → Async x (led g (flag (is_set x) (codes "async ") ++ rest)) (led (past_word x g) rest)
 async_at [] h g rest b = no_async
 async_at (c ∷ cs) h g rest b =
     subst (λ z. Async z (led g (codes "async " ++ rest)) (32 ∷ rest)) (sym (one_word (codes "async") (c ∷ cs) h refl)) (with_async (word_at g (codes "async") refl refl refl) (same_line spaced rest refl b))
@@ -79,23 +79,33 @@ async_at (c ∷ cs) h g rest b =
 -- ---- functions
 
 free_word : (x : Text) → is_free_name x ≡ true → (rest : Text) → stops rest ≡ true → Naming (binding_of x) (32 ∷ (x ++ rest)) rest
-free_word x h rest s = let both = and_parts (is_name x) (not (is_reserved x)) h in named (not-true (is_reserved x) both.1) (name_at spaced both.0 s)
+free_word x h rest s = let n = free_parts x h in named n.1 (name_at spaced n.0 s)
 
--- the function by its flags: `*` or none, a name or none
+pub naming_at : (id : Term) → has_shape (Place.optional (Sort.only Kind.BindingIdentifier)) id ≡ true → (rest : Text) → stops rest ≡ true → Naming (wrapped true never id) (flag (is_present id) (codes " ") ++ to true never id rest) rest
+naming_at absent h rest s = unnamed
+naming_at (list ts) h rest s = differ (sym h)
+naming_at (node k xs ts) h rest s = leaf Kind.BindingIdentifier is_free_name refl refl (λ texts. refl) (λ z. Naming (wrapped true never z) (32 ∷ to true never z rest) rest) (λ x n. free_word x n rest s) (node k xs ts) h
+
+-- behind a word and a `*` stands a part behind a blank, or what stands behind it
+pub part_stops : (need : Term → Bool) (t : Term) (word rest : Text) → stops rest ≡ true → stops (flag (is_present t) (32 ∷ word) ++ to true need t rest) ≡ true
+part_stops need absent word rest s = s
+part_stops need (list ts) word rest s = refl
+part_stops need (node k xs ts) word rest s = refl
+
+part_starred : (t : Term) (rest : Text) → starred rest ≡ true → starred (flag (is_present t) (codes " ") ++ to true never t rest) ≡ true
+part_starred absent rest s = s
+part_starred (list ts) rest s = refl
+part_starred (node k xs ts) rest s = refl
+
+-- the function by its flags: `*` or none
 function_with : (k : Kind) (async star : Text) (g : Lead) (ps body : Term) (p b : To) → texts.flag (codes "async") async ≡ true → texts.flag (codes "*") star ≡ true → ((l : Lead) (rest : Text) → Parameters true ps (led l (p rest)) rest) → ((rest : Text) → stops (p rest) ≡ true) → ((rest : Text) → starred (p rest) ≡ true) → ((l : Lead) (rest : Text) → Body body (led l (b rest)) rest) → (id : Term) → has_shape (Place.optional (Sort.only Kind.BindingIdentifier)) id ≡ true → (rest : Text) → FunctionText k (function_node k async star (wrapped true never id) ps body) (led g (flag (is_set async) (codes "async ") ++ (codes "function" ++ (flag (is_set star) (codes "*") ++ (flag (is_present id) (codes " ") ++ to true never id (p (32 ∷ b rest))))))) rest
-function_with k async [] g ps body p b ha hs fp sp st fb absent h rest =
-    function (async_at async ha g _ refl) (word_at (past_async async g) (codes "function") refl refl (sp (32 ∷ b rest))) no_star unnamed (fp flush (32 ∷ b rest)) (fb spaced rest)
-function_with k async (c ∷ cs) g ps body p b ha hs fp sp st fb absent h rest =
-    subst (λ z. FunctionText k (function_node k async z absent ps body) (led g (flag (is_set async) (codes "async ") ++ (codes "function" ++ (codes "*" ++ p (32 ∷ b rest))))) rest) (sym (one_word (codes "*") (c ∷ cs) hs refl))
-    (function (async_at async ha g _ refl) (word_at (past_async async g) (codes "function") refl refl refl) (with_star (sign_at flush (codes "*") refl (st (32 ∷ b rest)))) unnamed (fp flush (32 ∷ b rest)) (fb spaced rest))
-function_with k async star g ps body p b ha hs fp sp st fb (list ts) h rest = differ (sym h)
-function_with k async [] g ps body p b ha hs fp sp st fb (node j xs us) h rest =
-    leaf Kind.BindingIdentifier is_free_name refl refl (λ texts. refl) (λ z. FunctionText k (function_node k async [] (wrapped true never z) ps body) (led g (flag (is_set async) (codes "async ") ++ (codes "function" ++ 32 ∷ to true never z (p (32 ∷ b rest))))) rest) (λ x n.
-    function (async_at async ha g _ refl) (word_at (past_async async g) (codes "function") refl refl refl) no_star (free_word x n (p (32 ∷ b rest)) (sp (32 ∷ b rest))) (fp flush (32 ∷ b rest)) (fb spaced rest)) (node j xs us) h
-function_with k async (c ∷ cs) g ps body p b ha hs fp sp st fb (node j xs us) h rest =
-    subst (λ y. FunctionText k (function_node k async y (wrapped true never (node j xs us)) ps body) (led g (flag (is_set async) (codes "async ") ++ (codes "function" ++ (codes "*" ++ 32 ∷ to true never (node j xs us) (p (32 ∷ b rest)))))) rest) (sym (one_word (codes "*") (c ∷ cs) hs refl))
-    (leaf Kind.BindingIdentifier is_free_name refl refl (λ texts. refl) (λ z. FunctionText k (function_node k async (codes "*") (wrapped true never z) ps body) (led g (flag (is_set async) (codes "async ") ++ (codes "function" ++ (codes "*" ++ 32 ∷ to true never z (p (32 ∷ b rest)))))) rest) (λ x n.
-    function (async_at async ha g _ refl) (word_at (past_async async g) (codes "function") refl refl refl) (with_star (sign_at flush (codes "*") refl refl)) (free_word x n (p (32 ∷ b rest)) (sp (32 ∷ b rest))) (fp flush (32 ∷ b rest)) (fb spaced rest)) (node j xs us) h)
+function_with k async [] g ps body p b ha hs fp sp st fb id h rest =
+    let tail : Text = 32 ∷ b rest in
+    function (async_at async ha g _ refl) (word_at (past_word async g) (codes "function") refl refl (part_stops never id [] (p tail) (sp tail))) no_star (naming_at id h (p tail) (sp tail)) (fp flush tail) (fb spaced rest)
+function_with k async (c ∷ cs) g ps body p b ha hs fp sp st fb id h rest =
+    let tail : Text = 32 ∷ b rest in
+    subst (λ z. FunctionText k (function_node k async z (wrapped true never id) ps body) (led g (flag (is_set async) (codes "async ") ++ (codes "function" ++ (codes "*" ++ (flag (is_present id) (codes " ") ++ to true never id (p tail)))))) rest) (sym (one_word (codes "*") (c ∷ cs) hs refl))
+    (function (async_at async ha g _ refl) (word_at (past_word async g) (codes "function") refl refl refl) (with_star (sign_at flush (codes "*") refl (part_starred id (p tail) (st tail)))) (naming_at id h (p tail) (sp tail)) (fp flush tail) (fb spaced rest))
 
 pub declaration_is : (name : Place) → ((id : Term) → has_shape name id ≡ true → has_shape (Place.optional (Sort.only Kind.BindingIdentifier)) id ≡ true) → (xs : List Text) (ts : Terms) → Fit (function_places name) Kind.FunctionDeclaration xs ts → Kids (λ n. off) 0 ts → (g : Lead) (rest : Text) → FunctionText Kind.FunctionDeclaration (bare true (node Kind.FunctionDeclaration xs ts)) (led g (bare_to true (node Kind.FunctionDeclaration xs ts) rest)) rest
 declaration_is name into (async ∷ star ∷ []) (more id (more ps (more body none))) f c g rest =

@@ -2,11 +2,11 @@
 use Rattle.std.proofs.Common.{◌≡◌, refl, sym, ap, ◌∙◌, subst, ℕ, suc, List, [], ◌∷◌, ◌++◌, Bool, true, false, not, cond, ◌||◌, inl, inr, ◌⊎◌, arith}
 use Rattle.std.specs.Prelude.{codes, nat_le, nat_eq}
 use Rattle.std.proofs.lemmas.Bool.{and_parts, not-true, eqb-true}
-use Rattle.js_term.specs.Term.{Text, Term, absent, list, node, Terms, none, more, two, all, flag}
+use Rattle.js_term.specs.Term.{Text, Term, absent, list, node, Terms, none, more, one, two, all, flag}
 use Rattle.js_term.specs.declared.kind.Kind.{Kind}
 use Rattle.js_term.specs.Lexeme.{is_one_of}
 use Rattle.js_syntax.specs.Parts.{is_present, count, count_if}
-use Rattle.js_syntax.specs.Nodes.{variables_of}
+use Rattle.js_syntax.specs.Nodes.{marked, variables_of}
 use Rattle.js_syntax.specs.Sorts as sorts
 use Rattle.js_syntax.specs.Sorts.{Place, is_expression, takes, is_target}
 use Rattle.js_syntax.specs.Printable.{has_shape, is_named, is_default}
@@ -18,13 +18,14 @@ use Rattle.print_spelling.proofs.Tokens.{differ, Lead, flush, spaced, led, word_
 use Rattle.print_spelling.proofs.Spread.{to, each_to, separated_to}
 use Rattle.print_spelling.proofs.Fits.{Fit, fit_of, taken_by, list_shape, each_shaped}
 use Rattle.print_spelling.proofs.Shapes.{kind_is, only}
-use Rattle.print_spelling.proofs.Claims.{bare, bare_to, Claim, Each, Kids, off, Rule}
+use Rattle.print_spelling.proofs.Claims.{bare, bare_to, Claim, Each, Kids, Mode, off, Rule, Meaning}
+use Rattle.print_spelling.proofs.Claims as claims
 use Rattle.print_spelling.proofs.Placed.{in_place, in_place_node, expression_meaning, at}
 use Rattle.print_spelling.proofs.Assignments.{target_by}
 use Rattle.print_spelling.proofs.Functions.{by_flag}
 use Rattle.print_spelling.proofs.Patterns.{pattern_at}
 use Rattle.print_spelling.proofs.Bodies.{embedded_at, statements_at}
-use Rattle.print_spelling.proofs.Statements.{declaring, declaring_at, variables_with}
+use Rattle.print_spelling.proofs.Statements.{declaring, declaring_at, Declared, declared_list, plain_declares, plain_declared, Declares, variables_with, variables_rule}
 
 -- ---- for (init; test; update)
 
@@ -47,11 +48,11 @@ init_kind : (k : Kind) → takes sorts.Sort.for_init k ≡ true → (k ≡ Kind.
 init_kind Kind.VariableDeclaration h = inl refl
 init_kind k h = inr h
 
+init_list : (t : Term) → Declared (sorts.Sort.only Kind.VariableDeclarator) t → Claim off t → (x : Text) → is_one_of x declaring ≡ true → (rest : Text) → ForInit (wrapped false never (marked Kind.VariableDeclaration x (one t))) (to false never (marked Kind.VariableDeclaration x (one t)) (59 ∷ rest)) (59 ∷ rest)
+init_list u (declared_list t ts h) c x o rest = init_variables (variables_with (sorts.Sort.only Kind.VariableDeclarator) plain_declares false x t ts o h c flush (59 ∷ rest) refl)
+
 init_with : (xs : List Text) (ts : Terms) → Fit (Place.some (sorts.Sort.only Kind.VariableDeclarator) ∷ []) Kind.VariableDeclaration xs ts → Kids (λ n. off) 0 ts → (rest : Text) → ForInit (wrapped false never (node Kind.VariableDeclaration xs ts)) (to false never (node Kind.VariableDeclaration xs ts) (59 ∷ rest)) (59 ∷ rest)
-init_with (x ∷ []) (more (list (more t ts)) none) f c rest = init_variables (variables_with false x t ts f.spoken.0 (list_shape (Place.some (sorts.Sort.only Kind.VariableDeclarator)) (more t ts) f.placed.0).1 c.0 flush (59 ∷ rest) refl)
-init_with (x ∷ []) (more (list none) none) f c rest = differ (sym (list_shape (Place.some (sorts.Sort.only Kind.VariableDeclarator)) none f.placed.0).0)
-init_with (x ∷ []) (more absent none) f c rest = differ (sym f.placed.0)
-init_with (x ∷ []) (more (node k ys us) none) f c rest = differ (sym f.placed.0)
+init_with (x ∷ []) (more t none) f c rest = init_list t (plain_declared t f.placed.0) c.0 x f.spoken.0 rest
 init_with xs ts f c rest = differ (sym f.counted)
 
 init_at : (t : Term) → has_shape (Place.optional sorts.Sort.for_init) t ≡ true → Claim off t → (rest : Text) → ForInit (wrapped false never t) (to false never t (59 ∷ rest)) (59 ∷ rest)
@@ -96,6 +97,19 @@ left_with (x ∷ []) (more (list (more d (more e es))) none) f c rest = too_many
 left_with (x ∷ []) (more absent none) f c rest = differ (sym f.placed.0)
 left_with (x ∷ []) (more (node k ys us) none) f c rest = differ (sym f.placed.0)
 left_with xs ts f c rest = differ (sym f.counted)
+
+for_declares : Declares sorts.Sort.for_declarator
+for_declares k h = kind_is k Kind.VariableDeclarator h
+
+for_declared : (t : Term) → has_shape (Place.single sorts.Sort.for_declarator) t ≡ true → Declared sorts.Sort.for_declarator t
+for_declared absent h = differ (sym h)
+for_declared (list none) h = differ (sym (list_shape (Place.single sorts.Sort.for_declarator) none h).0)
+for_declared (list (more t ts)) h = declared_list t ts (list_shape (Place.single sorts.Sort.for_declarator) (more t ts) h).1
+for_declared (node k xs us) h = differ (sym h)
+
+-- such a declaration is a statement, too
+pub left_rule : (m : Mode) (xs : List Text) (ts : Terms) → Fit (Place.single sorts.Sort.for_declarator ∷ []) Kind.VariableDeclaration xs ts → Kids (λ n. off) 0 ts → Meaning m claims.a_statement (node Kind.VariableDeclaration xs ts)
+left_rule = variables_rule sorts.Sort.for_declarator for_declares (Place.single sorts.Sort.for_declarator) for_declared
 
 left_at : (t : Term) → has_shape (Place.one sorts.Sort.for_left) t ≡ true → Claim off t → (rest : Text) → ForLeft (wrapped false never t) (to false never t (32 ∷ rest)) (32 ∷ rest)
 left_at absent h c rest = differ (sym h)

@@ -7,6 +7,7 @@ use Rattle.js_term.specs.declared.kind.Kind.{Kind}
 use Rattle.js_term.specs.Lexeme.{is_reserved}
 use Rattle.js_term.specs.Node.{truth, boolean_of}
 use Rattle.js_syntax.specs.Lexical.{is_name, is_regexp_body, are_regexp_flags, in_order}
+use Rattle.js_syntax.specs.Texts.{is_free_name}
 use Rattle.js_syntax.specs.Tokens.{Token, regexp, is_regexp}
 use Rattle.js_syntax.specs.Spelling.{identifier, this_expression, null_literal, boolean, numeric, bigint, string_literal, regexp_literal, parenthesized, import_meta, new_target, binding}
 use Rattle.print_layout.specs.Needs.{needs}
@@ -15,10 +16,13 @@ use Rattle.print_spelling.proofs.Tokens.{differ, same_text, or_by, Lead, flush, 
 use Rattle.print_spelling.proofs.Claims.{Expr, ExpressionRule, Rule, ends_stop, open_ends, opens_at, of_stands}
 use Rattle.print_spelling.proofs.Placed.{in_place}
 
+-- a name that is not reserved
+pub free_parts : (x : Text) → is_free_name x ≡ true → (is_name x ≡ true) × (is_reserved x ≡ false)
+free_parts x h = let both = and_parts (is_name x) (not (is_reserved x)) h in (both.0, not-true (is_reserved x) both.1)
+
 pub identifier_rule : ExpressionRule Kind.Identifier
 identifier_rule (x ∷ []) none m c i n =
-    let both = and_parts (is_name x) (not (is_reserved x)) m.spoken.0 in
-    of_stands (λ g rest e. identifier (not-true (is_reserved x) both.1) (name_at g both.0 (ends_stop rest true e))) (opens_at (λ rest. name_opening x rest both.0))
+    let n = free_parts x m.spoken.0 in of_stands (λ g rest e. identifier n.1 (name_at g n.0 (ends_stop rest true e))) (opens_at (λ rest. name_opening x rest n.0))
 identifier_rule texts ts m c i n = differ (sym m.counted)
 
 pub this_rule : ExpressionRule Kind.ThisExpression
@@ -88,7 +92,5 @@ parenthesized_rule texts ts m c i n = differ (sym m.counted)
 
 -- names that are bound
 pub binding_rule : Rule Kind.BindingIdentifier
-binding_rule mode (x ∷ []) none m c g rest e =
-    let both = and_parts (is_name x) (not (is_reserved x)) m.spoken.0 in
-    binding (not-true (is_reserved x) both.1) (name_at g both.0 e)
+binding_rule mode (x ∷ []) none m c g rest e = let n = free_parts x m.spoken.0 in binding n.1 (name_at g n.0 e)
 binding_rule mode texts ts m c g rest e = differ (sym m.counted)

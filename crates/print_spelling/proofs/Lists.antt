@@ -91,9 +91,6 @@ pub whole_group : (s : Sort) (p : Place) → Whole p → (m : Mode) (i : Bool) (
 whole_group s p w m i need f none h c rest e = no_items
 whole_group s p w m i need f (more t ts) h c rest e = items (last_present p w i need t ts h) (whole_list s p w m i need f t ts h c flush rest e)
 
-pub whole_last : (p : Place) → Whole p → (i : Bool) (need : Term → Bool) (t : Term) (ts : Terms) → each_shaped p (more t ts) ≡ true → last_absent (each_wrapped i need (more t ts)) ≡ false
-whole_last = last_present
-
 -- ---- lists with holes
 
 last_full : (p : Place) (i : Bool) (need : Term → Bool) (g : Lead) (t : Term) (ts : Terms) → ends_in_hole (more t ts) ≡ false → (lead_last g (more t ts) ≡ flush) × (last_absent (each_wrapped i need (more t ts)) ≡ false)

@@ -1,30 +1,29 @@
 -- Objects of targets (ECMAScript 13.15.5).
-use Rattle.std.proofs.Common.{◌≡◌, refl, sym, subst, List, [], ◌∷◌, Bool, true, false, not, ◌||◌}
+use Rattle.std.proofs.Common.{◌≡◌, refl, sym, subst, List, [], ◌∷◌, Bool, true, false}
 use Rattle.std.specs.Prelude.{codes}
-use Rattle.std.proofs.lemmas.Bool.{and_parts}
-use Rattle.js_term.specs.Term.{Text, Term, absent, list, node, Terms, none, more, two, flag}
+use Rattle.js_term.specs.Term.{Text, Term, absent, list, node, Terms, none, more, two}
 use Rattle.js_term.specs.declared.kind.Kind.{Kind}
 use Rattle.js_term.specs.Node.{name_of, identifier_of}
-use Rattle.js_syntax.specs.Parts.{is_set_at, is_node, text_at}
-use Rattle.js_syntax.specs.Nodes.{pair_of}
+use Rattle.js_syntax.specs.Nodes.{pair_of, rested}
 use Rattle.js_syntax.specs.Sorts as sorts
 use Rattle.js_syntax.specs.Sorts.{Place, takes}
 use Rattle.js_syntax.specs.Places.{places, key_place}
-use Rattle.js_syntax.specs.Printable.{has_shape, is_one_name, is_value_of, marks_shorthand}
-use Rattle.js_syntax.specs.Spelling.{Item, no_items, items, Rest, rest_target_properties, no_rest, rest_alone, object_target, a_target_pair, a_target_shorthand, a_target_default, target_property}
+use Rattle.js_syntax.specs.Printable.{has_shape, is_value_of}
+use Rattle.js_syntax.specs.Spelling.{Item, Target, Rest, rest_target_properties, object_target, a_target_pair, a_target_shorthand, a_target_default, target_property}
 use Rattle.print_layout.specs.Needs.{never}
 use Rattle.print_layout.specs.Layout.{wrapped}
-use Rattle.print_spelling.proofs.Tokens.{differ, Lead, flush, spaced, led, sign_at, name_at, left_brace, right_brace, colon_at, dots_at}
+use Rattle.print_spelling.proofs.Tokens.{differ, Lead, flush, spaced, led, sign_at, name_at, colon_at, dots_at}
 use Rattle.print_spelling.proofs.Spread.{to}
 use Rattle.print_spelling.proofs.Fits.{Fit, fit_of, taken_by, plainly, list_shape}
-use Rattle.print_spelling.proofs.Shapes.{kind_is}
+use Rattle.print_spelling.proofs.Shapes.{kind_is, only}
 use Rattle.print_spelling.proofs.Claims.{bare, bare_to, ends, ends_stop, through, Claim, Kids, off, Rule}
 use Rattle.print_spelling.proofs.Placed.{at}
-use Rattle.print_spelling.proofs.Lists.{ItemAt, one_whole, whole_list, last_present}
+use Rattle.print_spelling.proofs.Lists.{ItemAt}
 use Rattle.print_spelling.proofs.Keys.{key_at}
 use Rattle.print_spelling.proofs.Assignments.{simple_target_at, simple_is}
-use Rattle.print_spelling.proofs.Patterns.{with_rest, defaulted_target_at}
-use Rattle.print_spelling.proofs.ObjectPatterns.{IsBound, bound_leaf, free_parts, key_name, no_name, pair_texts}
+use Rattle.print_spelling.proofs.Patterns.{defaulted_target_at}
+use Rattle.print_spelling.proofs.Leaves.{free_parts}
+use Rattle.print_spelling.proofs.Pairs.{IsBound, bound_leaf, pair_by, object_with}
 
 -- ---- one name for key and value
 
@@ -66,33 +65,20 @@ shorthand_target x (node Kind.BindingIdentifier xs ts) h c v = differ (sym (take
 shorthand_target x (node Kind.AssignmentPattern xs ts) h c v = differ (sym (taken_by sorts.Sort.target_element Kind.AssignmentPattern xs ts h).taken)
 shorthand_target x (node k xs ts) h c v = differ (sym v)
 
-property_by : (computed shorthand : Bool) (k v : Term) → has_shape (key_place computed sorts.Sort.key) k ≡ true → has_shape (Place.one sorts.Sort.target_element) v ≡ true → Claim off k → Claim off v → not shorthand || is_one_name (two k v) ≡ true → (g : Lead) (rest : Text) → ends rest false ≡ true → Item target_property (bare true (pair_of Kind.AssignmentTargetProperty computed shorthand k v)) (led g (bare_to true (pair_of Kind.AssignmentTargetProperty computed shorthand k v) rest)) rest
-property_by true false k v hk hv ck cv s g rest e = a_target_pair (key_at true k hk ck g _ refl) (colon_at flush) (defaulted_target_at v hv cv spaced rest e)
-property_by false false k v hk hv ck cv s g rest e = a_target_pair (key_at false k hk ck g _ refl) (colon_at flush) (defaulted_target_at v hv cv spaced rest e)
-property_by true true k v hk hv ck cv s g rest e = no_name k hk (and_parts (is_node Kind.IdentifierName k) _ s).0
-property_by false true k v hk hv ck cv s g rest e =
-    key_name (λ z. is_one_name (two z v) ≡ true → (g : Lead) (rest : Text) → ends rest false ≡ true → Item target_property (bare true (pair_of Kind.AssignmentTargetProperty false true z v)) (led g (bare_to true (pair_of Kind.AssignmentTargetProperty false true z v) rest)) rest) k hk (and_parts (is_node Kind.IdentifierName k) _ s).0
-    (λ x s. shorthand_target x v hv cv (and_parts (is_node Kind.IdentifierName (name_of x)) _ s).1) s g rest e
-
 pub target_property_rule : Rule Kind.AssignmentTargetProperty
 target_property_rule m (x ∷ y ∷ []) (more k (more v none)) f c g rest e =
-    pair_texts (λ zs. has_shape (key_place (is_set_at 0 zs) sorts.Sort.key) k ≡ true → marks_shorthand (text_at 1 zs) (two k v) ≡ true → (g : Lead) (rest : Text) → ends rest false ≡ true → Item target_property (bare true (node Kind.AssignmentTargetProperty zs (two k v))) (led g (bare_to true (node Kind.AssignmentTargetProperty zs (two k v)) rest)) rest)
-    (λ b d. by b d) x y f.spoken.0 f.spoken.1.0 f.placed.0 f.sound g rest e
+    pair_by v (λ zs z. (g : Lead) (rest : Text) → ends rest false ≡ true → Item target_property (bare true (node Kind.AssignmentTargetProperty zs (two z v))) (led g (bare_to true (node Kind.AssignmentTargetProperty zs (two z v)) rest)) rest) k by
+    (λ x s. shorthand_target x v f.placed.1.0 c.1.0 s) x y f.spoken.0 f.spoken.1.0 f.placed.0 f.sound g rest e
   where
-    by : (b d : Bool) → has_shape (key_place (is_set_at 0 (flag b (codes "computed") ∷ flag d (codes "shorthand") ∷ [])) sorts.Sort.key) k ≡ true → marks_shorthand (flag d (codes "shorthand")) (two k v) ≡ true → (g : Lead) (rest : Text) → ends rest false ≡ true → Item target_property (bare true (pair_of Kind.AssignmentTargetProperty b d k v)) (led g (bare_to true (pair_of Kind.AssignmentTargetProperty b d k v) rest)) rest
-    by true true h s = property_by true true k v h f.placed.1.0 c.0 c.1.0 s
-    by true false h s = property_by true false k v h f.placed.1.0 c.0 c.1.0 s
-    by false true h s = property_by false true k v h f.placed.1.0 c.0 c.1.0 s
-    by false false h s = property_by false false k v h f.placed.1.0 c.0 c.1.0 s
+    by : (b : Bool) → has_shape (key_place b sorts.Sort.key) k ≡ true → (g : Lead) (rest : Text) → ends rest false ≡ true → Item target_property (bare true (pair_of Kind.AssignmentTargetProperty b false k v)) (led g (bare_to true (pair_of Kind.AssignmentTargetProperty b false k v) rest)) rest
+    by true h g rest e = a_target_pair (key_at true k h c.0 g _ refl) (colon_at flush) (defaulted_target_at v f.placed.1.0 c.1.0 spaced rest e)
+    by false h g rest e = a_target_pair (key_at false k h c.0 g _ refl) (colon_at flush) (defaulted_target_at v f.placed.1.0 c.1.0 spaced rest e)
 target_property_rule m texts ts f c g rest e = differ (sym f.counted)
 
 -- ---- { k: p, ...x }
 
 property_item : (t : Term) → has_shape (Place.one (sorts.Sort.only Kind.AssignmentTargetProperty)) t ≡ true → Claim off t → ItemAt target_property true never t
-property_item absent h c g rest s = differ (sym h)
-property_item (list ts) h c g rest s = differ (sym h)
-property_item (node k texts ts) h c g rest s =
-    subst (λ j. Claim off (node j texts ts) → Item target_property (wrapped true never (node j texts ts)) (led g (to true never (node j texts ts) rest)) rest) (sym (kind_is k Kind.AssignmentTargetProperty (taken_by (sorts.Sort.only Kind.AssignmentTargetProperty) k texts ts h).taken)) (λ c. c.0 g rest s) c
+property_item t h c = only Kind.AssignmentTargetProperty (λ z. Claim off z → ItemAt target_property true never z) (λ xs ts h c. c.0) t h c
 
 object_target_rest_at : (r : Term) → has_shape (Place.one sorts.Sort.object_target_rest) r ≡ true → Claim off r → (g : Lead) (rest : Text) → ends rest false ≡ true → Rest target_property (wrapped true never r) (led g (to true never r rest)) rest
 object_target_rest_at absent h c g rest s = differ (sym h)
@@ -105,16 +91,8 @@ object_target_rest_at (node k texts ts) h c g rest s =
     by texts ts f c = differ (sym f.counted)
 
 pub object_target_rule : Rule Kind.ObjectAssignmentTarget
-object_target_rule m [] (more (list none) (more absent none)) f c i g rest = object_target (left_brace g) (no_rest no_items) (right_brace flush)
-object_target_rule m [] (more (list (more t ts)) (more absent none)) f c i g rest =
-    let shape = (list_shape (Place.many (sorts.Sort.only Kind.AssignmentTargetProperty)) (more t ts) f.placed.0).1 in
-    object_target (left_brace g) (no_rest (items (last_present (Place.one (sorts.Sort.only Kind.AssignmentTargetProperty)) (one_whole (sorts.Sort.only Kind.AssignmentTargetProperty)) true never t ts shape) (whole_list target_property (Place.one (sorts.Sort.only Kind.AssignmentTargetProperty)) (one_whole (sorts.Sort.only Kind.AssignmentTargetProperty)) off true never property_item t ts shape c.0 spaced (32 ∷ 125 ∷ rest) refl))) (right_brace spaced)
-object_target_rule m [] (more (list none) (more (node k xs us) none)) f c i g rest =
-    object_target (left_brace g) (rest_alone (object_target_rest_at (node k xs us) f.placed.1.0 c.1.0 spaced (32 ∷ 125 ∷ rest) refl)) (right_brace spaced)
-object_target_rule m [] (more (list (more t ts)) (more (node k xs us) none)) f c i g rest =
-    let shape = (list_shape (Place.many (sorts.Sort.only Kind.AssignmentTargetProperty)) (more t ts) f.placed.0).1 in
-    object_target (left_brace g) (with_rest true target_property (Place.one (sorts.Sort.only Kind.AssignmentTargetProperty)) property_item (more t ts) shape c.0 (wrapped true never (node k xs us)) (to true never (node k xs us)) (32 ∷ 125 ∷ rest) (λ l. object_target_rest_at (node k xs us) f.placed.1.0 c.1.0 l (32 ∷ 125 ∷ rest) refl) spaced) (right_brace spaced)
-object_target_rule m [] (more (list ts) (more (list us) none)) f c i g rest = differ (sym f.placed.1.0)
+object_target_rule m [] (more (list ts) (more r none)) f c i g rest =
+    object_with target_property (sorts.Sort.only Kind.AssignmentTargetProperty) sorts.Sort.object_target_rest (λ es u a d. Target i (rested Kind.ObjectAssignmentTarget es u) a d) (λ es u a b d e left parts right. object_target left parts right) property_item r f.placed.1.0 (λ h. object_target_rest_at r h c.1.0) ts (list_shape (Place.many (sorts.Sort.only Kind.AssignmentTargetProperty)) ts f.placed.0).1 c.0 g rest
 object_target_rule m [] (more absent (more t none)) f c i g rest = differ (sym f.placed.0)
 object_target_rule m [] (more (node k xs us) (more t none)) f c i g rest = differ (sym f.placed.0)
 object_target_rule m texts ts f c i g rest = differ (sym f.counted)

@@ -29,9 +29,10 @@ use Rattle.print_spelling.proofs.Lists.{ItemAt, one_whole, last_present, whole_l
 use Rattle.print_spelling.proofs.Calls.{argument_is}
 use Rattle.print_spelling.proofs.Keys.{KeyAt, Starred, key_at, key_public, key_starred}
 use Rattle.print_spelling.proofs.Patterns.{closing_flag}
-use Rattle.print_spelling.proofs.ObjectPatterns.{IsBound, free_parts, key_name, no_name}
+use Rattle.print_spelling.proofs.Leaves.{free_parts}
+use Rattle.print_spelling.proofs.Pairs.{IsBound, key_name, no_name}
 use Rattle.print_spelling.proofs.ObjectTargets.{bound_identifier}
-use Rattle.print_spelling.proofs.Functions.{parameters_at, parameters_end, body_at, past_async, past_star, one_word, by_flag, async_at}
+use Rattle.print_spelling.proofs.Functions.{parameters_at, parameters_end, body_at, past_word, past_star, one_word, by_flag, async_at}
 
 pub spread_rule : Rule Kind.SpreadElement
 spread_rule m [] (more t none) f c g rest e = let p = at 2 refl true t f.placed.0 c.0 in spread (dots_at g) (p.stands flush (through _ rest e))
@@ -127,11 +128,21 @@ method_at true (node k xs ts) h c =
 method_at false (node k xs ts) h c =
     subst (λ j. has_shape (Place.one sorts.Sort.plain_method) (node j xs ts) ≡ true → Claim off (node j xs ts) → MethodAt false (node j xs ts)) (sym (method_kind false k (taken_by sorts.Sort.plain_method k xs ts h).taken)) (λ h c. let f = fit_of sorts.Sort.plain_method Kind.FunctionExpression xs ts refl h in method_by false xs ts f.1 c.1 (λ e. f.0.suited)) h c
 
--- no flag is set
-pub no_flags : (x y : Text) → not (is_set x) && not (is_set y) ≡ true → (x ≡ []) × (y ≡ [])
-no_flags [] [] h = (refl, refl)
-no_flags [] (c ∷ cs) h = differ (sym h)
-no_flags (c ∷ cs) y h = differ (sym h)
+-- the function of a getter, a setter or a constructor
+pub record PlainMethod (v : Term) : Type 0 where
+  pub parameters : Term
+  pub body : Term
+  pub is : v ≡ function_node Kind.FunctionExpression [] [] absent parameters body
+  pub ends : (rest : Text) → ends (method_to (function_node Kind.FunctionExpression [] [] absent parameters body) rest) false ≡ true
+  pub function : (trails : Bool) (g : Lead) (rest : Text) → MethodFunction trails [] [] (wrapped true never (function_node Kind.FunctionExpression [] [] absent parameters body)) (led g (method_to (function_node Kind.FunctionExpression [] [] absent parameters body) rest)) rest
+
+plain_with : (v : Term) (async star : Text) (ps body : Term) → not (is_set async) && not (is_set star) ≡ true → v ≡ function_node Kind.FunctionExpression async star absent ps body → ((rest : Text) → ends (method_to (function_node Kind.FunctionExpression async star absent ps body) rest) false ≡ true) → ((trails : Bool) (g : Lead) (rest : Text) → MethodFunction trails async star (wrapped true never (function_node Kind.FunctionExpression async star absent ps body)) (led g (method_to (function_node Kind.FunctionExpression async star absent ps body) rest)) rest) → PlainMethod v
+plain_with v [] [] ps body u e en fn = record { parameters = ps; body = body; is = e; ends = en; function = fn }
+plain_with v [] (c ∷ cs) ps body u e en fn = differ (sym u)
+plain_with v (c ∷ cs) star ps body u e en fn = differ (sym u)
+
+pub plain_method_at : (v : Term) → has_shape (Place.one sorts.Sort.plain_method) v ≡ true → Claim off v → PlainMethod v
+plain_method_at v h c = let m = method_at false v h c in plain_with v m.async m.star m.parameters m.body (m.unflagged refl) m.is m.ends m.function
 
 -- ---- the flags before a key
 
@@ -150,7 +161,7 @@ star_gap (c ∷ cs) rest h = refl
 pub method_with : (async star : Text) (computed : Bool) (k f : Term) (key fun : To) → texts.flag (codes "async") async ≡ true → texts.flag (codes "*") star ≡ true → ((rest : Text) → is_starred (key rest) ≡ true) → ((g : Lead) (rest : Text) → ends rest false ≡ true → MemberKey computed k (led g (key rest)) rest) → ((rest : Text) → ends (fun rest) false ≡ true) → ((trails : Bool) (g : Lead) (rest : Text) → MethodFunction trails async star f (led g (fun rest)) rest) → (g : Lead) (rest : Text) → Method (codes "method") computed k f (led g ((flag (is_set async) (codes "async ") ++ flag (is_set star) (codes "*")) ++ key (fun rest))) rest
 method_with async star computed k f key fun ha hs st at en fn g rest =
     subst (λ a. Method (codes "method") computed k f (led g a) rest) (sym (append_assoc (flag (is_set async) (codes "async ")) (flag (is_set star) (codes "*")) (key (fun rest))))
-    (method (async_at async ha g (flag (is_set star) (codes "*") ++ key (fun rest)) (star_gap star (key (fun rest)) (st (fun rest)))) (key_star_at star hs (past_async async g) (key (fun rest)) (st (fun rest))) (at (past_star star (past_async async g)) (fun rest) (en rest)) (fn true flush rest))
+    (method (async_at async ha g (flag (is_set star) (codes "*") ++ key (fun rest)) (star_gap star (key (fun rest)) (st (fun rest)))) (key_star_at star hs (past_word async g) (key (fun rest)) (st (fun rest))) (at (past_star star (past_word async g)) (fun rest) (en rest)) (fn true flush rest))
 
 -- ---- properties of an object
 
@@ -161,25 +172,19 @@ plain_property : (c : Bool) (k v : Term) → KeyAt c k → At true (loose 2) 2 v
 plain_property true k v key p g rest e = a_property (key g _ refl) (colon_at flush) (p.stands spaced (through _ rest e))
 plain_property false k v key p g rest e = a_property (key g _ refl) (colon_at flush) (p.stands spaced (through _ rest e))
 
-getter_property : (c : Bool) (k : Term) → KeyAt c k → no_private (wrapped true (loose 2) k) ≡ true → (v : Term) → MethodAt false v → PropertyIs (codes "get" ∷ [] ∷ [] ∷ flag c (codes "computed") ∷ []) k v
-getter_property c k key np v m =
-    let none = no_flags m.async m.star (m.unflagged refl) in
-    let f : Term = function_node Kind.FunctionExpression m.async m.star absent m.parameters m.body in
-    subst (λ z. PropertyIs (codes "get" ∷ [] ∷ [] ∷ flag c (codes "computed") ∷ []) k z) (sym m.is) (by c key (subst (λ y. (trails : Bool) (g : Lead) (rest : Text) → MethodFunction trails [] y (wrapped true never f) (led g (method_to f rest)) rest) none.1 (subst (λ y. (trails : Bool) (g : Lead) (rest : Text) → MethodFunction trails y m.star (wrapped true never f) (led g (method_to f rest)) rest) none.0 m.function)))
-  where
-    by : (c : Bool) → KeyAt c k → ((trails : Bool) (g : Lead) (rest : Text) → MethodFunction trails [] [] (wrapped true never (function_node Kind.FunctionExpression m.async m.star absent m.parameters m.body)) (led g (method_to (function_node Kind.FunctionExpression m.async m.star absent m.parameters m.body) rest)) rest) → PropertyIs (codes "get" ∷ [] ∷ [] ∷ flag c (codes "computed") ∷ []) k (function_node Kind.FunctionExpression m.async m.star absent m.parameters m.body)
-    by true key fn g rest e = an_accessor (getter (word_at g (codes "get") refl refl refl) (public_key (key spaced _ (m.ends rest))) (fn true flush rest)) np
-    by false key fn g rest e = an_accessor (getter (word_at g (codes "get") refl refl refl) (public_key (key spaced _ (m.ends rest))) (fn true flush rest)) np
+-- get k() { ss }, set k(p) { ss }
+abbrev pub accessor_word : Bool → Text
+accessor_word true = codes "get"
+accessor_word false = codes "set"
 
-setter_property : (c : Bool) (k : Term) → KeyAt c k → no_private (wrapped true (loose 2) k) ≡ true → (v : Term) → MethodAt false v → PropertyIs (codes "set" ∷ [] ∷ [] ∷ flag c (codes "computed") ∷ []) k v
-setter_property c k key np v m =
-    let none = no_flags m.async m.star (m.unflagged refl) in
-    let f : Term = function_node Kind.FunctionExpression m.async m.star absent m.parameters m.body in
-    subst (λ z. PropertyIs (codes "set" ∷ [] ∷ [] ∷ flag c (codes "computed") ∷ []) k z) (sym m.is) (by c key (subst (λ y. (trails : Bool) (g : Lead) (rest : Text) → MethodFunction trails [] y (wrapped true never f) (led g (method_to f rest)) rest) none.1 (subst (λ y. (trails : Bool) (g : Lead) (rest : Text) → MethodFunction trails y m.star (wrapped true never f) (led g (method_to f rest)) rest) none.0 m.function)))
+accessor_property : (b c : Bool) (k : Term) → KeyAt c k → no_private (wrapped true (loose 2) k) ≡ true → (v : Term) → PlainMethod v → PropertyIs (accessor_word b ∷ [] ∷ [] ∷ flag c (codes "computed") ∷ []) k v
+accessor_property b c k key np v m = subst (λ z. PropertyIs (accessor_word b ∷ [] ∷ [] ∷ flag c (codes "computed") ∷ []) k z) (sym m.is) (by b c key)
   where
-    by : (c : Bool) → KeyAt c k → ((trails : Bool) (g : Lead) (rest : Text) → MethodFunction trails [] [] (wrapped true never (function_node Kind.FunctionExpression m.async m.star absent m.parameters m.body)) (led g (method_to (function_node Kind.FunctionExpression m.async m.star absent m.parameters m.body) rest)) rest) → PropertyIs (codes "set" ∷ [] ∷ [] ∷ flag c (codes "computed") ∷ []) k (function_node Kind.FunctionExpression m.async m.star absent m.parameters m.body)
-    by true key fn g rest e = an_accessor (setter (word_at g (codes "set") refl refl refl) (public_key (key spaced _ (m.ends rest))) (fn false flush rest)) np
-    by false key fn g rest e = an_accessor (setter (word_at g (codes "set") refl refl refl) (public_key (key spaced _ (m.ends rest))) (fn false flush rest)) np
+    by : (b c : Bool) → KeyAt c k → PropertyIs (accessor_word b ∷ [] ∷ [] ∷ flag c (codes "computed") ∷ []) k (function_node Kind.FunctionExpression [] [] absent m.parameters m.body)
+    by true true key g rest e = an_accessor (getter (word_at g (codes "get") refl refl refl) (public_key (key spaced _ (m.ends rest))) (m.function true flush rest)) np
+    by true false key g rest e = an_accessor (getter (word_at g (codes "get") refl refl refl) (public_key (key spaced _ (m.ends rest))) (m.function true flush rest)) np
+    by false true key g rest e = an_accessor (setter (word_at g (codes "set") refl refl refl) (public_key (key spaced _ (m.ends rest))) (m.function false flush rest)) np
+    by false false key g rest e = an_accessor (setter (word_at g (codes "set") refl refl refl) (public_key (key spaced _ (m.ends rest))) (m.function false flush rest)) np
 
 method_property : (c : Bool) (k : Term) → KeyAt c k → Starred c k → no_private (wrapped true (loose 2) k) ≡ true → (v : Term) → MethodAt true v → PropertyIs (codes "init" ∷ codes "method" ∷ [] ∷ flag c (codes "computed") ∷ []) k v
 method_property c k key st np v m = subst (λ z. PropertyIs (codes "init" ∷ codes "method" ∷ [] ∷ flag c (codes "computed") ∷ []) k z) (sym m.is) (by c key st)
@@ -239,14 +244,14 @@ init_rule false false false k v hk hv s ck cv = plain_property false k v (key_at
 get_rule : PropertyRule (codes "get")
 get_rule true b c k v hk hv s ck cv = differ (sym s)
 get_rule false true c k v hk hv s ck cv = no_function_value false (text_of k) v (method_at false v hv cv) (value_name k v s)
-get_rule false false true k v hk hv s ck cv = getter_property true k (key_at true k hk ck) (key_public true k hk) v (method_at false v hv cv)
-get_rule false false false k v hk hv s ck cv = getter_property false k (key_at false k hk ck) (key_public false k hk) v (method_at false v hv cv)
+get_rule false false true k v hk hv s ck cv = accessor_property true true k (key_at true k hk ck) (key_public true k hk) v (plain_method_at v hv cv)
+get_rule false false false k v hk hv s ck cv = accessor_property true false k (key_at false k hk ck) (key_public false k hk) v (plain_method_at v hv cv)
 
 set_rule : PropertyRule (codes "set")
 set_rule true b c k v hk hv s ck cv = differ (sym s)
 set_rule false true c k v hk hv s ck cv = no_function_value false (text_of k) v (method_at false v hv cv) (value_name k v s)
-set_rule false false true k v hk hv s ck cv = setter_property true k (key_at true k hk ck) (key_public true k hk) v (method_at false v hv cv)
-set_rule false false false k v hk hv s ck cv = setter_property false k (key_at false k hk ck) (key_public false k hk) v (method_at false v hv cv)
+set_rule false false true k v hk hv s ck cv = accessor_property false true k (key_at true k hk ck) (key_public true k hk) v (plain_method_at v hv cv)
+set_rule false false false k v hk hv s ck cv = accessor_property false false k (key_at false k hk ck) (key_public false k hk) v (plain_method_at v hv cv)
 
 property_of_kind : (kind : Text) → PropertyRule kind → (x y z : Text) (k v : Term) → Fit (places Kind.ObjectProperty (kind ∷ x ∷ y ∷ z ∷ [])) Kind.ObjectProperty (kind ∷ x ∷ y ∷ z ∷ []) (two k v) → Kids (λ n. off) 0 (two k v) → PropertyIs (kind ∷ x ∷ y ∷ z ∷ []) k v
 property_of_kind kind rule x y z k v f c =

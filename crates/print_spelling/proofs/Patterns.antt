@@ -1,10 +1,12 @@
 -- Patterns that bind (ECMAScript 14.3.3), patterns of targets (13.15.5), parameters (15.1).
-use Rattle.std.proofs.Common.{◌≡◌, refl, sym, subst, List, [], ◌∷◌, ◌++◌, Bool, true, false, inl, inr, ◌⊎◌}
+use Rattle.std.proofs.Common.{◌≡◌, refl, sym, subst, List, [], ◌∷◌, ◌++◌, Bool, true, false, not, ◌&&◌, inl, inr, ◌⊎◌}
 use Rattle.std.specs.Prelude.{codes}
 use Rattle.js_term.specs.Term.{Text, Term, absent, list, node, Terms, none, more, flag}
 use Rattle.js_term.specs.declared.kind.Kind.{Kind}
 use Rattle.js_term.specs.Kinds.{is_among}
 use Rattle.js_syntax.specs.Nodes.{of_part, rested, declarator_of}
+use Rattle.js_syntax.specs.Parts.{is_present}
+use Rattle.js_syntax.specs.Tokens.{Sign}
 use Rattle.js_syntax.specs.Sorts as sorts
 use Rattle.js_syntax.specs.Sorts.{Place, takes, patterns}
 use Rattle.js_syntax.specs.Printable.{has_shape}
@@ -15,7 +17,7 @@ use Rattle.print_layout.specs.Layout.{wrapped, each_wrapped}
 use Rattle.print_spelling.proofs.Tokens.{differ, Lead, flush, spaced, led, stops, sign_at, left_parenthesis, right_parenthesis, left_bracket, right_bracket, comma_at, dots_at}
 use Rattle.print_spelling.proofs.Spread.{To, to, each_to, separated_to}
 use Rattle.print_spelling.proofs.Fits.{Fit, fit_of, taken_by, list_shape, each_shaped}
-use Rattle.print_spelling.proofs.Shapes.{kind_is, only}
+use Rattle.print_spelling.proofs.Shapes.{only}
 use Rattle.print_spelling.proofs.Claims.{bare, bare_to, ends, ends_stop, through, Claim, Each, Kids, off, Rule}
 use Rattle.print_spelling.proofs.Placed.{at}
 use Rattle.print_spelling.proofs.Lists.{ItemAt, lead_last, listed, each_item, one_whole, whole_group, whole_list, last_present, closing, holed_group}
@@ -144,16 +146,22 @@ pub closing_flag : (b : Bool) (rest : Text) → flag b (codes ",") ++ rest ≡ c
 closing_flag true rest = refl
 closing_flag false rest = refl
 
+-- [ items, ...r ]
+abbrev array_to : Terms → Term → To
+array_to ts r rest = 91 ∷ separated_to comma (each_to true never ts) (flag (has_items (list ts)) (flag (is_present r) comma) ++ to true never r (flag (not (is_present r) && ends_in_hole ts) (codes ",") ++ 93 ∷ rest))
+
+array_with : (s : Sort) (k q : sorts.Sort) (P : List Term → Term → Text → Text → Type 0) → ((es : List Term) (r : Term) (a b c d : Text) → Sign (codes "[") a b → Rested true s es r b c → Sign (codes "]") c d → P es r a d) → ((t : Term) → has_shape (Place.optional k) t ≡ true → Claim off t → ItemAt s true never t) → (r : Term) → has_shape (Place.optional q) r ≡ true → (has_shape (Place.one q) r ≡ true → (g : Lead) (rest : Text) → ends rest false ≡ true → Rest s (wrapped true never r) (led g (to true never r rest)) rest) → (ts : Terms) → each_shaped (Place.optional k) ts ≡ true → Each off ts → (g : Lead) (rest : Text) → P (each_wrapped true never ts) (wrapped true never r) (led g (array_to ts r rest)) rest
+array_with s k q P make item absent hr final ts h c g rest =
+    subst (λ z. P (each_wrapped true never ts) absent (led g (91 ∷ separated_to comma (each_to true never ts) (z ++ (flag (ends_in_hole ts) (codes ",") ++ 93 ∷ rest)))) rest) (sym (no_comma ts))
+    (subst (λ z. P (each_wrapped true never ts) absent (led g (91 ∷ separated_to comma (each_to true never ts) z)) rest) (sym (closing_flag (ends_in_hole ts) (93 ∷ rest)))
+    (make (each_wrapped true never ts) absent _ _ _ _ (left_bracket g) (no_rest (holed_group s (Place.optional k) off true never item ts h c (93 ∷ rest) refl (ends_in_hole ts) refl)) (right_bracket flush)))
+array_with s k q P make item (list us) hr final ts h c g rest = differ (sym hr)
+array_with s k q P make item (node j xs us) hr final ts h c g rest =
+    make (each_wrapped true never ts) (wrapped true never (node j xs us)) _ _ _ _ (left_bracket g) (with_rest true s (Place.optional k) item ts h c (wrapped true never (node j xs us)) (to true never (node j xs us)) (93 ∷ rest) (λ l. final hr l (93 ∷ rest) refl) flush) (right_bracket flush)
+
 pub array_pattern_rule : Rule Kind.ArrayPattern
-array_pattern_rule m [] (more (list ts) (more absent none)) f c g rest s =
-    let shape = (list_shape (Place.spaced sorts.Sort.pattern_element) ts f.placed.0).1 in
-    subst (λ z. Pattern (rested Kind.ArrayPattern (each_wrapped true never ts) absent) (led g (91 ∷ separated_to comma (each_to true never ts) (z ++ (flag (ends_in_hole ts) (codes ",") ++ 93 ∷ rest)))) rest) (sym (no_comma ts))
-    (subst (λ z. Pattern (rested Kind.ArrayPattern (each_wrapped true never ts) absent) (led g (91 ∷ separated_to comma (each_to true never ts) z)) rest) (sym (closing_flag (ends_in_hole ts) (93 ∷ rest)))
-    (array_pattern (left_bracket g) (no_rest (holed_group binding_element (Place.optional sorts.Sort.pattern_element) off true never binding_item ts shape c.0 (93 ∷ rest) refl (ends_in_hole ts) refl)) (right_bracket flush)))
-array_pattern_rule m [] (more (list ts) (more (node k xs us) none)) f c g rest s =
-    let shape = (list_shape (Place.spaced sorts.Sort.pattern_element) ts f.placed.0).1 in
-    array_pattern (left_bracket g) (with_rest true binding_element (Place.optional sorts.Sort.pattern_element) binding_item ts shape c.0 (wrapped true never (node k xs us)) (to true never (node k xs us)) (93 ∷ rest) (λ l. binding_rest (node k xs us) f.placed.1.0 c.1.0 l (93 ∷ rest) refl) flush) (right_bracket flush)
-array_pattern_rule m [] (more (list ts) (more (list us) none)) f c g rest s = differ (sym f.placed.1.0)
+array_pattern_rule m [] (more (list ts) (more r none)) f c g rest s =
+    array_with binding_element sorts.Sort.pattern_element (sorts.Sort.only Kind.BindingRestElement) (λ es u a d. Pattern (rested Kind.ArrayPattern es u) a d) (λ es u a b d e left parts right. array_pattern left parts right) binding_item r f.placed.1.0 (λ h g rest e. binding_rest r h c.1.0 g rest (ends_stop rest false e)) ts (list_shape (Place.spaced sorts.Sort.pattern_element) ts f.placed.0).1 c.0 g rest
 array_pattern_rule m [] (more absent (more t none)) f c g rest s = differ (sym f.placed.0)
 array_pattern_rule m [] (more (node k xs us) (more t none)) f c g rest s = differ (sym f.placed.0)
 array_pattern_rule m texts ts f c g rest s = differ (sym f.counted)
@@ -168,15 +176,8 @@ target_rest r h c = only Kind.AssignmentTargetRest (λ z. Claim off z → (g : L
     by texts ts f c g rest s = differ (sym f.counted)
 
 pub array_target_rule : Rule Kind.ArrayAssignmentTarget
-array_target_rule m [] (more (list ts) (more absent none)) f c i g rest =
-    let shape = (list_shape (Place.spaced sorts.Sort.target_element) ts f.placed.0).1 in
-    subst (λ z. Target i (rested Kind.ArrayAssignmentTarget (each_wrapped true never ts) absent) (led g (91 ∷ separated_to comma (each_to true never ts) (z ++ (flag (ends_in_hole ts) (codes ",") ++ 93 ∷ rest)))) rest) (sym (no_comma ts))
-    (subst (λ z. Target i (rested Kind.ArrayAssignmentTarget (each_wrapped true never ts) absent) (led g (91 ∷ separated_to comma (each_to true never ts) z)) rest) (sym (closing_flag (ends_in_hole ts) (93 ∷ rest)))
-    (array_target (left_bracket g) (no_rest (holed_group target_element (Place.optional sorts.Sort.target_element) off true never target_item ts shape c.0 (93 ∷ rest) refl (ends_in_hole ts) refl)) (right_bracket flush)))
-array_target_rule m [] (more (list ts) (more (node k xs us) none)) f c i g rest =
-    let shape = (list_shape (Place.spaced sorts.Sort.target_element) ts f.placed.0).1 in
-    array_target (left_bracket g) (with_rest true target_element (Place.optional sorts.Sort.target_element) target_item ts shape c.0 (wrapped true never (node k xs us)) (to true never (node k xs us)) (93 ∷ rest) (λ l. target_rest (node k xs us) f.placed.1.0 c.1.0 l (93 ∷ rest) refl) flush) (right_bracket flush)
-array_target_rule m [] (more (list ts) (more (list us) none)) f c i g rest = differ (sym f.placed.1.0)
+array_target_rule m [] (more (list ts) (more r none)) f c i g rest =
+    array_with target_element sorts.Sort.target_element (sorts.Sort.only Kind.AssignmentTargetRest) (λ es u a d. Target i (rested Kind.ArrayAssignmentTarget es u) a d) (λ es u a b d e left parts right. array_target left parts right) target_item r f.placed.1.0 (λ h. target_rest r h c.1.0) ts (list_shape (Place.spaced sorts.Sort.target_element) ts f.placed.0).1 c.0 g rest
 array_target_rule m [] (more absent (more t none)) f c i g rest = differ (sym f.placed.0)
 array_target_rule m [] (more (node k xs us) (more t none)) f c i g rest = differ (sym f.placed.0)
 array_target_rule m texts ts f c i g rest = differ (sym f.counted)
@@ -198,10 +199,7 @@ formal_rest r h c = only Kind.FormalParameterRest (λ z. Claim off z → (g : Le
     by texts ts f c g rest s = differ (sym f.counted)
 
 parameter_item : (t : Term) → has_shape (Place.one (sorts.Sort.only Kind.FormalParameter)) t ≡ true → Claim off t → ItemAt parameter true never t
-parameter_item absent h c g rest s = differ (sym h)
-parameter_item (list ts) h c g rest s = differ (sym h)
-parameter_item (node k texts ts) h c g rest s =
-    subst (λ j. Claim off (node j texts ts) → Item parameter (wrapped true never (node j texts ts)) (led g (to true never (node j texts ts) rest)) rest) (sym (kind_is k Kind.FormalParameter (taken_by (sorts.Sort.only Kind.FormalParameter) k texts ts h).taken)) (λ c. c.0 g rest s) c
+parameter_item t h c = only Kind.FormalParameter (λ z. Claim off z → ItemAt parameter true never z) (λ xs ts h c. c.0) t h c
 
 only_parameters : (trails : Bool) (ts : Terms) → each_shaped (Place.one (sorts.Sort.only Kind.FormalParameter)) ts ≡ true → Each off ts → (rest : Text) → Rested trails parameter (each_wrapped true never ts) absent (separated_to comma (each_to true never ts) (41 ∷ rest)) (41 ∷ rest)
 only_parameters true ts h c rest = no_rest (whole_group parameter (Place.one (sorts.Sort.only Kind.FormalParameter)) (one_whole (sorts.Sort.only Kind.FormalParameter)) off true never parameter_item ts h c (41 ∷ rest) refl)

@@ -27,9 +27,12 @@ leaf_by : (test : Text → Bool) (P : List Text → Terms → Type 0) → ((x : 
 leaf_by test P f (x ∷ []) none c w = f x w.0
 leaf_by test P f texts ts c w = differ (sym c)
 
--- a part with one text and no parts
+-- a part with one text and no parts, at a place for several kinds
+pub leaf_at : (s : Sort) (k : Kind) (test : Text → Bool) → is_program k ≡ false → tests k ≡ test ∷ [] → ((texts : List Text) → places_at s k texts ≡ []) → (P : Term → Type 0) → ((x : Text) → test x ≡ true → P (node k (x ∷ []) none)) → (texts : List Text) (ts : Terms) → has_shape (Place.one s) (node k texts ts) ≡ true → P (node k texts ts)
+leaf_at s k test n e p P f texts ts h =
+    let m = (fit_of s k texts ts n h).1 in
+    leaf_by test (λ xs us. P (node k xs us)) f texts ts (subst (λ ps. are_words (test ∷ []) texts && are_many ps ts ≡ true) (p texts) (subst (λ ws. are_words ws texts && are_many (places_at s k texts) ts ≡ true) e m.counted)) (subst (λ ws. Worded ws texts) e m.spoken)
+
+-- and at one for its kind alone
 pub leaf : (k : Kind) (test : Text → Bool) → is_program k ≡ false → tests k ≡ test ∷ [] → ((texts : List Text) → places_at (Sort.only k) k texts ≡ []) → (P : Term → Type 0) → ((x : Text) → test x ≡ true → P (node k (x ∷ []) none)) → (t : Term) → has_shape (Place.one (Sort.only k)) t ≡ true → P t
-leaf k test n e p P f =
-    only k P (λ texts ts h.
-    let m = (fit_of (Sort.only k) k texts ts n h).1 in
-    leaf_by test (λ xs us. P (node k xs us)) f texts ts (subst (λ ps. are_words (test ∷ []) texts && are_many ps ts ≡ true) (p texts) (subst (λ ws. are_words ws texts && are_many (places_at (Sort.only k) k texts) ts ≡ true) e m.counted)) (subst (λ ws. Worded ws texts) e m.spoken))
+leaf k test n e p P f = only k P (leaf_at (Sort.only k) k test n e p P f)

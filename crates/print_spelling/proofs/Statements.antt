@@ -2,17 +2,17 @@
 use Rattle.std.proofs.Common.{◌≡◌, refl, sym, ◌∙◌, subst, List, [], ◌∷◌, ◌++◌, Bool, true, false, not, ◌&&◌, ◌||◌}
 use Rattle.std.specs.Prelude.{codes}
 use Rattle.std.proofs.lemmas.Bool.{and_parts, not-true}
-use Rattle.js_term.specs.Term.{Text, Term, absent, list, node, Terms, none, more}
+use Rattle.js_term.specs.Term.{Text, Term, absent, list, node, Terms, none, more, one}
 use Rattle.js_term.specs.declared.kind.Kind.{Kind}
-use Rattle.js_term.specs.Lexeme.{is_one_of, is_reserved}
+use Rattle.js_term.specs.Lexeme.{is_one_of}
 use Rattle.js_syntax.specs.Lexical.{begins_gap, is_name}
 use Rattle.js_syntax.specs.Tokens.{Word}
 use Rattle.js_syntax.specs.Texts.{is_free_name}
-use Rattle.js_syntax.specs.Nodes.{label_of, of_part, of_parts}
+use Rattle.js_syntax.specs.Nodes.{label_of, marked, of_part, of_parts}
 use Rattle.js_syntax.specs.Sorts as sorts
 use Rattle.js_syntax.specs.Sorts.{Place}
 use Rattle.js_syntax.specs.Printable.{has_shape, ends_open}
-use Rattle.js_syntax.specs.Spelling.{Statement, empty_statement, expression_statement, if_statement, if_else, do_while, do_written, while_statement, continue_statement, break_statement, bare_return, return_statement, labeled, throw_statement, try_statement, debugger, declaration, variables, declarators, Variables, Label, no_label, a_label, Handler, no_handler, bare_handler, handler, no_finalizer, finalizer, written, Item, declarator, a_declarator}
+use Rattle.js_syntax.specs.Spelling.{Statement, Declaration, empty_statement, expression_statement, if_statement, if_else, do_while, do_written, while_statement, continue_statement, break_statement, bare_return, return_statement, labeled, throw_statement, try_statement, debugger, declaration, variables, declarators, Variables, Label, no_label, a_label, Handler, no_handler, bare_handler, handler, no_finalizer, finalizer, written, Item, declarator, a_declarator}
 use Rattle.print_layout.specs.Rows.{comma}
 use Rattle.print_layout.specs.Needs.{never, needs, leads, is_opener}
 use Rattle.print_layout.specs.Layout.{wrapped, wrapped_kids, each_wrapped}
@@ -25,6 +25,7 @@ use Rattle.print_spelling.proofs.Shapes.{kind_is, only, leaf}
 use Rattle.print_spelling.proofs.Claims.{bare, bare_to, ends, spaced_line, Claim, Each, Kids, Mode, off, Rule, Meaning, a_declarator}
 use Rattle.print_spelling.proofs.Claims as claims
 use Rattle.print_spelling.proofs.Placed.{in_place}
+use Rattle.print_spelling.proofs.Leaves.{free_parts}
 use Rattle.print_spelling.proofs.Lists.{ItemAt, one_whole, whole_list}
 use Rattle.print_spelling.proofs.Fronts.{is_item, opens_statement}
 use Rattle.print_spelling.proofs.Patterns.{pattern_at, declarator_with}
@@ -110,19 +111,16 @@ while_rule m texts ts f c g rest = differ (sym f.counted)
 
 -- ---- labels
 
-free : (x : Text) → is_free_name x ≡ true → (is_name x ≡ true) × (is_reserved x ≡ false)
-free x h = let both = and_parts (is_name x) (not (is_reserved x)) h in (both.0, not-true (is_reserved x) both.1)
-
 label_line : (x rest : Text) → is_name x ≡ true → begins_gap (x ++ rest) ≡ false
 label_line x rest n = opening_gap (x ++ rest) (name_opening x rest n)
 
 pub labeled_rule : Rule Kind.LabeledStatement
 labeled_rule m [] (more l (more s none)) f c g rest =
-    leaf Kind.LabelIdentifier is_free_name refl refl (λ texts. refl) (λ z. Statement (bare true (of_parts Kind.LabeledStatement z s)) (led g (bare_to true (of_parts Kind.LabeledStatement z s) rest)) rest) (λ x h. let n = free x h in labeled n.1 (name_at g n.0 refl) (colon_at flush) (embedded_at s f.placed.1.0 c.1.0 spaced rest)) l f.placed.0
+    leaf Kind.LabelIdentifier is_free_name refl refl (λ texts. refl) (λ z. Statement (bare true (of_parts Kind.LabeledStatement z s)) (led g (bare_to true (of_parts Kind.LabeledStatement z s) rest)) rest) (λ x h. let n = free_parts x h in labeled n.1 (name_at g n.0 refl) (colon_at flush) (embedded_at s f.placed.1.0 c.1.0 spaced rest)) l f.placed.0
 labeled_rule m texts ts f c g rest = differ (sym f.counted)
 
 label_at : (x : Text) → is_free_name x ≡ true → (rest : Text) → Label (label_of x) (32 ∷ (x ++ 59 ∷ rest)) (59 ∷ rest)
-label_at x h rest = let n = free x h in a_label n.1 (same_line spaced (x ++ 59 ∷ rest) refl (label_line x (59 ∷ rest) n.0)) (name_at spaced n.0 refl)
+label_at x h rest = let n = free_parts x h in a_label n.1 (same_line spaced (x ++ 59 ∷ rest) refl (label_line x (59 ∷ rest) n.0)) (name_at spaced n.0 refl)
 
 pub break_rule : Rule Kind.BreakStatement
 break_rule m [] (more absent none) f c g rest = break_statement (word_at g (codes "break") refl refl refl) no_label (written (semicolon_at flush))
@@ -158,15 +156,22 @@ pub declarator_rule : (place : Place) → ((e : Term) → has_shape place e ≡ 
 declarator_rule place into [] (more p (more e none)) f c i g rest s = declarator_with p e f.placed.0 (into e f.placed.1.0) c.0 c.1.0 i g rest s
 declarator_rule place into texts ts f c i g rest s = differ (sym f.counted)
 
-declarator_item : (i : Bool) (t : Term) → has_shape (Place.one (sorts.Sort.only Kind.VariableDeclarator)) t ≡ true → Claim off t → ItemAt (declarator i) i never t
-declarator_item i absent h c g rest s = differ (sym h)
-declarator_item i (list ts) h c g rest s = differ (sym h)
-declarator_item i (node k texts ts) h c g rest s =
-    subst (λ j. Claim off (node j texts ts) → Item (declarator i) (wrapped i never (node j texts ts)) (led g (to i never (node j texts ts) rest)) rest) (sym (kind_is k Kind.VariableDeclarator (taken_by (sorts.Sort.only Kind.VariableDeclarator) k texts ts h).taken)) (by i) c
+-- a sort that takes declarators alone
+abbrev pub Declares : sorts.Sort → Type 0
+Declares s = (k : Kind) → sorts.takes s k ≡ true → k ≡ Kind.VariableDeclarator
+
+pub plain_declares : Declares (sorts.Sort.only Kind.VariableDeclarator)
+plain_declares k h = kind_is k Kind.VariableDeclarator h
+
+declarator_item : (s : sorts.Sort) → Declares s → (i : Bool) (t : Term) → has_shape (Place.one s) t ≡ true → Claim off t → ItemAt (declarator i) i never t
+declarator_item s d i absent h c g rest e = differ (sym h)
+declarator_item s d i (list ts) h c g rest e = differ (sym h)
+declarator_item s d i (node k texts ts) h c g rest e =
+    subst (λ j. Claim off (node j texts ts) → Item (declarator i) (wrapped i never (node j texts ts)) (led g (to i never (node j texts ts) rest)) rest) (sym (d k (taken_by s k texts ts h).taken)) (by i) c
   where
     by : (j : Bool) → Claim off (node Kind.VariableDeclarator texts ts) → Item (declarator j) (wrapped j never (node Kind.VariableDeclarator texts ts)) (led g (to j never (node Kind.VariableDeclarator texts ts) rest)) rest
-    by true c = c.0 true g rest s
-    by false c = c.0 false g rest s
+    by true c = c.0 true g rest e
+    by false c = c.0 false g rest e
 
 abbrev pub declaring : List Text
 declaring = codes "var" ∷ codes "let" ∷ codes "const" ∷ []
@@ -174,17 +179,28 @@ declaring = codes "var" ∷ codes "let" ∷ codes "const" ∷ []
 pub declaring_at : (x : Text) → is_one_of x declaring ≡ true → (g : Lead) (a : Text) → Word x (led g (x ++ 32 ∷ a)) (32 ∷ a)
 declaring_at x o g a = let js = and_parts (not (begins_gap (x ++ 32 ∷ a))) _ (among (λ z. not (begins_gap (z ++ 32 ∷ a)) && is_name z) declaring x refl o) in word_at g x (not-true _ js.0) js.1 refl
 
-pub variables_with : (i : Bool) (x : Text) (t : Term) (ts : Terms) → is_one_of x declaring ≡ true → each_shaped (Place.one (sorts.Sort.only Kind.VariableDeclarator)) (more t ts) ≡ true → Each off (more t ts) → (g : Lead) (rest : Text) → ends rest false ≡ true → Variables i x (each_wrapped i never (more t ts)) (led g (x ++ 32 ∷ separated_to comma (each_to i never (more t ts)) rest)) rest
-variables_with i x t ts o h c g rest e =
-    declarators o (declaring_at x o g _) (whole_list (declarator i) (Place.one (sorts.Sort.only Kind.VariableDeclarator)) (one_whole (sorts.Sort.only Kind.VariableDeclarator)) off i never (declarator_item i) t ts h c spaced rest e)
+pub variables_with : (s : sorts.Sort) → Declares s → (i : Bool) (x : Text) (t : Term) (ts : Terms) → is_one_of x declaring ≡ true → each_shaped (Place.one s) (more t ts) ≡ true → Each off (more t ts) → (g : Lead) (rest : Text) → ends rest false ≡ true → Variables i x (each_wrapped i never (more t ts)) (led g (x ++ 32 ∷ separated_to comma (each_to i never (more t ts)) rest)) rest
+variables_with s d i x t ts o h c g rest e = declarators o (declaring_at x o g _) (whole_list (declarator i) (Place.one s) (one_whole s) off i never (declarator_item s d i) t ts h c spaced rest e)
 
-pub variables_rule : (m : Mode) (texts : List Text) (ts : Terms) → Fit (Place.some (sorts.Sort.only Kind.VariableDeclarator) ∷ []) Kind.VariableDeclaration texts ts → Kids (λ n. off) 0 ts → Meaning m claims.a_statement (node Kind.VariableDeclaration texts ts)
-variables_rule m (x ∷ []) (more (list (more t ts)) none) f c g rest =
-    declaration (variables (variables_with true x t ts f.spoken.0 (list_shape (Place.some (sorts.Sort.only Kind.VariableDeclarator)) (more t ts) f.placed.0).1 c.0 g (59 ∷ rest) refl) (written (semicolon_at flush)))
-variables_rule m (x ∷ []) (more (list none) none) f c g rest = differ (sym (list_shape (Place.some (sorts.Sort.only Kind.VariableDeclarator)) none f.placed.0).0)
-variables_rule m (x ∷ []) (more absent none) f c g rest = differ (sym f.placed.0)
-variables_rule m (x ∷ []) (more (node k xs us) none) f c g rest = differ (sym f.placed.0)
-variables_rule m texts ts f c g rest = differ (sym f.counted)
+-- a list of one declarator or more
+pub data Declared (s : sorts.Sort) : Term → Type 0 where
+  declared_list : (t : Term) (ts : Terms) → each_shaped (Place.one s) (more t ts) ≡ true → Declared s (list (more t ts))
+
+pub plain_declared : (t : Term) → has_shape (Place.some (sorts.Sort.only Kind.VariableDeclarator)) t ≡ true → Declared (sorts.Sort.only Kind.VariableDeclarator) t
+plain_declared absent h = differ (sym h)
+plain_declared (list none) h = differ (sym (list_shape (Place.some (sorts.Sort.only Kind.VariableDeclarator)) none h).0)
+plain_declared (list (more t ts)) h = declared_list t ts (list_shape (Place.some (sorts.Sort.only Kind.VariableDeclarator)) (more t ts) h).1
+plain_declared (node k xs us) h = differ (sym h)
+
+variables_at : (s : sorts.Sort) → Declares s → (t : Term) → Declared s t → Claim off t → (x : Text) → is_one_of x declaring ≡ true → (g : Lead) (rest : Text) → Declaration (bare true (marked Kind.VariableDeclaration x (one t))) (led g (bare_to true (marked Kind.VariableDeclaration x (one t)) rest)) rest
+variables_at s d u (declared_list t ts h) c x o g rest = variables (variables_with s d true x t ts o h c g (59 ∷ rest) refl) (written (semicolon_at flush))
+
+pub variables_declared : (s : sorts.Sort) → Declares s → (place : Place) → ((t : Term) → has_shape place t ≡ true → Declared s t) → (texts : List Text) (ts : Terms) → Fit (place ∷ []) Kind.VariableDeclaration texts ts → Kids (λ n. off) 0 ts → (g : Lead) (rest : Text) → Declaration (bare true (node Kind.VariableDeclaration texts ts)) (led g (bare_to true (node Kind.VariableDeclaration texts ts) rest)) rest
+variables_declared s d place into (x ∷ []) (more t none) f c g rest = variables_at s d t (into t f.placed.0) c.0 x f.spoken.0 g rest
+variables_declared s d place into texts ts f c g rest = differ (sym f.counted)
+
+pub variables_rule : (s : sorts.Sort) → Declares s → (place : Place) → ((t : Term) → has_shape place t ≡ true → Declared s t) → (m : Mode) (texts : List Text) (ts : Terms) → Fit (place ∷ []) Kind.VariableDeclaration texts ts → Kids (λ n. off) 0 ts → Meaning m claims.a_statement (node Kind.VariableDeclaration texts ts)
+variables_rule s d place into m texts ts f c g rest = declaration (variables_declared s d place into texts ts f c g rest)
 
 -- ---- try (14.15)
 

@@ -138,15 +138,15 @@ tagged_with t i p qs es f =
     let high : 19 ≤ level (wrapped i (loose 19) t) = p.high in
     of_stands (λ g rest e. spelling.tagged p.high (p.stands g refl) (f flush rest)) (opens_tight (λ rest. 96 ∷ template_to (each_to true never qs) (each_to true never es) (96 ∷ rest)) (omega (arith, high)) p.placed.expr.opens)
 
-pub tagged_rule : (texts : List Text) (ts : Terms) → Fit (Place.one Sort.expression ∷ Place.one Sort.tagged_template ∷ []) Kind.TaggedTemplateExpression texts ts → Kids (claims.mode_inside off Kind.TaggedTemplateExpression) 0 ts → NodeExpr (node Kind.TaggedTemplateExpression texts ts)
-tagged_rule [] (more t (more (node k texts us) none)) m c i n =
+pub tagged_rule : (m : Mode) (texts : List Text) (ts : Terms) → Fit (Place.one Sort.expression ∷ Place.one Sort.tagged_template ∷ []) Kind.TaggedTemplateExpression texts ts → Kids (claims.mode_inside m Kind.TaggedTemplateExpression) 0 ts → NodeExpr (node Kind.TaggedTemplateExpression texts ts)
+tagged_rule d [] (more t (more (node k texts us) none)) m c i n =
     let same : k ≡ Kind.TemplateLiteral = kind_is k Kind.TemplateLiteral (taken_by Sort.tagged_template k texts us m.placed.1.0).taken in
     let p = at 19 refl i t m.placed.0 c.0 in
     subst (λ j. has_shape (Place.one Sort.tagged_template) (node j texts us) ≡ true → Claim claims.tagged (node j texts us) → Expr i (bare i (of_parts Kind.TaggedTemplateExpression t (node j texts us))) (bare_to i (of_parts Kind.TaggedTemplateExpression t (node j texts us)))) (sym same)
     (λ h d. quasi_is texts us (fit_of Sort.tagged_template Kind.TemplateLiteral texts us refl h).1 d.1 (λ xs vs. Expr i (bare i (of_parts Kind.TaggedTemplateExpression t (node Kind.TemplateLiteral xs vs))) (bare_to i (of_parts Kind.TaggedTemplateExpression t (node Kind.TemplateLiteral xs vs)))) (λ qs es f. tagged_with t i p qs es f)) m.placed.1.0 c.1.0
-tagged_rule [] (more t (more absent none)) m c i n = differ (sym m.placed.1.0)
-tagged_rule [] (more t (more (list ts) none)) m c i n = differ (sym m.placed.1.0)
-tagged_rule texts ts m c i n = differ (sym m.counted)
+tagged_rule d [] (more t (more absent none)) m c i n = differ (sym m.placed.1.0)
+tagged_rule d [] (more t (more (list ts) none)) m c i n = differ (sym m.placed.1.0)
+tagged_rule d texts ts m c i n = differ (sym m.counted)
 
 -- ---- new f(es), import(e, o)
 

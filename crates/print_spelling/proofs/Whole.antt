@@ -1,41 +1,19 @@
--- What the induction over a tree will cite: which kinds have a rule, which modes stand on a chain, and functions by their sort.
-use Rattle.std.proofs.Common.{◌≡◌, refl, sym, ℕ, suc, zero, List, Bool, true, false, not, ◌&&◌, ◌||◌}
-use Rattle.js_term.specs.Term.{Text, Term, absent, list, node, Terms, none, more}
+-- What the induction over a tree cites: which modes stand on a chain, and the rules of the kinds whose parts are a matter of their own place.
+use Rattle.std.proofs.Common.{◌≡◌, refl, sym, ℕ, suc, zero, List, Bool, true, false, not, ◌||◌}
+use Rattle.js_term.specs.Term.{Text, Term, absent, list, node, Terms}
 use Rattle.js_term.specs.declared.kind.Kind.{Kind}
 use Rattle.js_syntax.specs.Sorts.{Sort, Place}
 use Rattle.js_syntax.specs.Places.{places_at}
 use Rattle.js_syntax.specs.Printable.{has_shape, spine_inside}
 use Rattle.print_spelling.proofs.Tokens.{differ}
 use Rattle.print_spelling.proofs.Fits.{Fit}
-use Rattle.print_spelling.proofs.Claims.{Mode, off, on, tagged, mode_inside, Kids, Meaning, category, NodeExpr}
+use Rattle.print_spelling.proofs.Claims.{Mode, off, on, tagged, mode_inside, Kids, Linked, unlinked, Meaning, category, NodeExpr}
+use Rattle.print_spelling.proofs.Quiet.{is_tagged, agrees}
+use Rattle.print_spelling.proofs.Templates.{template_rule}
+use Rattle.print_spelling.proofs.Heads.{left_rule}
+use Rattle.print_spelling.proofs.Classes.{class_is}
 use Rattle.print_spelling.proofs.Functions.{declaration_is, function_is}
-use Rattle.print_spelling.proofs.Statements.{declarator_rule}
-
--- Kinds whose claims are shown so far: all but classes, their elements, and what stands at the root of a module alone.
-abbrev pub is_covered : Kind → Bool
-is_covered Kind.Program = false
-is_covered Kind.ClassDeclaration = false
-is_covered Kind.ClassExpression = false
-is_covered Kind.StaticBlock = false
-is_covered Kind.MethodDefinition = false
-is_covered Kind.PropertyDefinition = false
-is_covered Kind.ImportDeclaration = false
-is_covered Kind.ExportAllDeclaration = false
-is_covered Kind.ExportNamedDeclaration = false
-is_covered Kind.ExportFromDeclaration = false
-is_covered Kind.ExportDeclaration = false
-is_covered Kind.ExportDefaultDeclaration = false
-is_covered k = true
-
-abbrev mutual
-  pub covered : Term → Bool
-  covered absent = true
-  covered (list ts) = all_covered ts
-  covered (node k texts ts) = is_covered k && all_covered ts
-
-  pub all_covered : Terms → Bool
-  all_covered none = true
-  all_covered (more t ts) = covered t && all_covered ts
+use Rattle.print_spelling.proofs.Statements.{declarator_rule, plain_declares, plain_declared, variables_rule}
 
 -- ---- modes and chains
 
@@ -94,3 +72,21 @@ functional s texts ts f c = function_is (Place.optional (Sort.only Kind.BindingI
 pub declarator_of_sort : (s : Sort) (texts : List Text) (ts : Terms) → Fit (places_at s Kind.VariableDeclarator texts) Kind.VariableDeclarator texts ts → Kids (λ n. off) 0 ts → Meaning off (category Kind.VariableDeclarator) (node Kind.VariableDeclarator texts ts)
 declarator_of_sort Sort.for_declarator texts ts f c = declarator_rule Place.nothing nothing_kept texts ts f c
 declarator_of_sort s texts ts f c = declarator_rule (Place.optional Sort.expression) (λ e h. h) texts ts f c
+
+pub variables_of_sort : (s : Sort) (m : Mode) (texts : List Text) (ts : Terms) → Fit (places_at s Kind.VariableDeclaration texts) Kind.VariableDeclaration texts ts → Kids (λ n. off) 0 ts → Meaning m (category Kind.VariableDeclaration) (node Kind.VariableDeclaration texts ts)
+variables_of_sort Sort.for_left m texts ts f c = left_rule m texts ts f c
+variables_of_sort s m texts ts f c = variables_rule (Sort.only Kind.VariableDeclarator) plain_declares (Place.some (Sort.only Kind.VariableDeclarator)) plain_declared m texts ts f c
+
+pub class_of_sort : (s : Sort) (texts : List Text) (ts : Terms) → Fit (places_at s Kind.ClassDeclaration texts) Kind.ClassDeclaration texts ts → Kids (λ n. off) 0 ts → Meaning off (category Kind.ClassDeclaration) (node Kind.ClassDeclaration texts ts)
+class_of_sort Sort.exported_default texts ts f c = class_is (Place.optional (Sort.only Kind.BindingIdentifier)) (λ id h. h) texts ts f c
+class_of_sort s texts ts f c = class_is (Place.one (Sort.only Kind.BindingIdentifier)) same_name texts ts f c
+
+-- of the template of a tag nothing is claimed
+tagged_nothing : (m : Mode) (t : Term) → is_tagged m ≡ true → Linked m t
+tagged_nothing off t h = differ (sym h)
+tagged_nothing on t h = differ (sym h)
+tagged_nothing tagged t h = tt
+
+pub template_of_sort : (s : Sort) (m : Mode) → agrees (Place.one s) m ≡ true → (texts : List Text) (ts : Terms) → Fit (places_at s Kind.TemplateLiteral texts) Kind.TemplateLiteral texts ts → Kids (λ n. off) 0 ts → Linked m (node Kind.TemplateLiteral texts ts)
+template_of_sort Sort.tagged_template m a texts ts f c = tagged_nothing m (node Kind.TemplateLiteral texts ts) a
+template_of_sort s m a texts ts f c = unlinked m (node Kind.TemplateLiteral texts ts) refl (template_rule texts ts f c)
