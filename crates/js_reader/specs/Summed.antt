@@ -8,7 +8,7 @@ use Rattle.js_tokens.specs.Next.{after}
 use Rattle.js_reading.specs.declared.goal.Goal.{Goal}
 use Rattle.js_reading.specs.Reading.{Found, Reading, ◌>>=◌, sees, trees, any_cover, any_barred}
 use Rattle.js_reading.specs.Parts.{item, element, argument}
-use Rattle.js_reading.specs.Literals.{ends_with_spread}
+use Rattle.js_reading.specs.Literals.{ends_with_spread, property_item}
 use Rattle.js_reading.specs.Expressions.{any_spread}
 use Rattle.js_reader.specs.declared.found.Listing.{Listing}
 use Rattle.js_reader.specs.declared.found.Listed.{Listed}
@@ -54,3 +54,4 @@ abbrev pub item_of : Listed → (Goal → Text → Reading Found) → Text → R
 item_of listed.Parenthesized sub a = item sub a
 item_of listed.Element sub a = element sub a
 item_of listed.Argument sub a = argument sub a
+item_of listed.Property sub a = property_item sub a

@@ -44,6 +44,8 @@ pub enum Listed {
     Element,
     /// Arguments of a call (13.3).
     Argument,
+    /// Properties of an object (13.2.5).
+    Property,
 }
 
 /// The items of a list, and what holds of any of them or of the last.
