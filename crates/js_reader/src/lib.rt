@@ -4,9 +4,11 @@
 mod edge;
 mod fault;
 mod found;
+mod nodes;
 mod tokens;
 
-pub use edge::Edge;
+pub use edge::{Edge, declared_edge, field_edge, right_edge};
 pub use fault::Halt;
 pub use found::{Found, Listed, Listing};
+pub use nodes::is_node;
 pub use tokens::{binding, expect, expect_word, name, sees, sees_word};
