@@ -1,16 +1,23 @@
 //! The reader of modules. What reads the parts of a part is handed down, so that no function here calls itself.
 #![tactic(auto)]
 
+mod ahead;
 mod edge;
 mod fault;
 mod found;
 mod goes_on;
 mod nodes;
+mod semicolons;
 mod tokens;
 
+pub use ahead::{
+    arrow_here, begins_async_function, begins_key_at, ends_here, ends_operand, modifies_element,
+    modifies_method, sees_each,
+};
 pub use edge::{Edge, declared_edge, field_edge, right_edge};
 pub use fault::Halt;
 pub use found::{Found, Listed, Listing};
 pub use goes_on::goes_on_with;
 pub use nodes::is_node;
+pub use semicolons::{at_end, do_end, left_out, same_line, semicolon};
 pub use tokens::{binding, expect, expect_word, name, sees, sees_word};
