@@ -18,6 +18,9 @@ pub use edge::{Edge, declared_edge, field_edge, right_edge};
 pub use fault::Halt;
 pub use found::{Found, Listed, Listing};
 pub use goes_on::goes_on_with;
-pub use nodes::is_node;
+pub use nodes::{
+    ends_open, is_bare_new, is_body, is_constructor, is_named, is_node, is_private_member,
+    is_simple_target, is_try, is_unnamed,
+};
 pub use semicolons::{at_end, do_end, left_out, same_line, semicolon};
 pub use tokens::{binding, expect, expect_word, name, sees, sees_word};
