@@ -6,8 +6,8 @@ ghost use Rattle.js_reading.specs.Literals as literals;
 ghost use Rattle.js_reading.specs.Reading as spec;
 ghost use Rattle.js_reading.specs.Statements as statements;
 
+use crate::continuations::begins_key;
 use crate::edge::Edge;
-use crate::goes_on::begins_key;
 use crate::semicolons::{at_end, left_out, same_line};
 use crate::tokens::{sees, sees_word};
 use js_tokens::{Punctuator, Tokens};

@@ -6,9 +6,9 @@ ghost use Rattle.js_reading.specs.Reading as spec;
 ghost use Rattle.js_reader.specs.Edges.{edge_of};
 ghost use Rattle.js_reader.specs.Reads.{Reads};
 
+use crate::continuations::goes_on_with;
 use crate::edge::Edge;
 use crate::fault::Halt;
-use crate::goes_on::goes_on_with;
 use crate::tokens::sees;
 use js_tokens::{Lexeme, Punctuator, Tokens};
 
