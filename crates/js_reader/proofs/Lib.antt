@@ -1,2 +1,4 @@
+pub mod Edges
+pub mod NodeParts
 pub mod Punctuators
 pub mod Summing

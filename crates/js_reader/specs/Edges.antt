@@ -1,4 +1,6 @@
 -- How the text of a part ends.
+use Rattle.std.specs.Prelude.{Option, None, Some}
+use Rattle.js_term.specs.Term.{Terms}
 use Rattle.js_syntax.specs.Edges as syntax
 use Rattle.js_reader.specs.declared.edge.Edge as code
 use Rattle.js_reader.specs.declared.edge.Edge.TheVariants as edge
@@ -11,3 +13,8 @@ edge_of edge.Exports = syntax.exports
 edge_of edge.Accessor = syntax.accessor
 edge_of edge.Static = syntax.static
 edge_of edge.Plain = syntax.plain
+
+-- an edge, or else that of the last of these parts
+abbrev pub edge_in : Option code.Edge → Terms → syntax.Edge
+edge_in (Some e) ts = edge_of e
+edge_in None ts = syntax.edge_last ts

@@ -1,3 +1,4 @@
 pub mod Reads
 pub mod Edges
+pub mod NodeParts
 pub mod Summed
