@@ -1,14 +1,16 @@
 //! What is found.
 
-ghost use Rattle.std.specs.Prelude.{◌≡◌};
+ghost use Rattle.std.specs.Prelude.{◌≡◌, OnOk};
 ghost use Rattle.js_reading.specs.Reading as spec;
 ghost use Rattle.js_reader.specs.Reads.{found_of};
-ghost use Rattle.js_reader.specs.Summed.{listing_of, nothing_yet};
+ghost use Rattle.js_reader.specs.Summed.{added, listing_of, nothing_yet};
 ghost use Rattle.js_tree.specs.TermOf.{term};
 
 use js_items::Items;
+use crate::nodes::is_node;
+use js_term::Kind;
 use js_tree::Node;
-use std::alloc::Global;
+use std::alloc::{AllocError, Global};
 
 /// A tree, and the level of an expression (ECMAScript 13.2 to 13.15).
 #[derive(Drop)]
@@ -75,5 +77,23 @@ impl Listing {
             last: false,
             comma: false,
         }
+    }
+
+    /// Adds what was found.
+    pub fn add(&mut self, found: Found) -> Result<(), AllocError>
+        ensures { OnOk result (listing_of self.new ≡ added (listing_of self.old) (found_of found)) }
+    {
+        let Found {
+            node,
+            cover,
+            barred,
+            ..
+        } = found;
+        self.cover = self.cover || cover;
+        self.barred = self.barred || barred;
+        self.last = is_node(&node, Kind::SpreadElement);
+        self.spread = self.spread || self.last;
+        self.comma = false;
+        self.items.push(node)
     }
 }
