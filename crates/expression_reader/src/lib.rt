@@ -3,6 +3,7 @@
 #![tactic(auto)]
 
 mod lists;
+mod properties;
 mod reader;
 
-pub use reader::Reader;
+pub use reader::{Reader, spanned};

@@ -9,8 +9,18 @@ ghost use Rattle.js_tree.specs.TermOf.{term};
 use js_reader::{Found, Halt};
 use js_reading::Goal;
 use js_tokens::Tokens;
-use js_tree::Node;
+use js_tree::{Node, Span};
 use std::alloc::Global;
+
+/// The node of the text from `start` to behind the last token that was passed.
+pub fn spanned(node: Node, start: u32, tokens: &Tokens<'_>) -> Node
+    ensures { term result ≡ term node }
+{
+    node.with_span(Span {
+        start,
+        end: tokens.end(),
+    })
+}
 
 /// What reads the parts of a part, and how deep a part may be.
 #[derive(Clone, Copy)]
