@@ -1,0 +1,6 @@
+//! The printer of ECMAScript modules.
+#![tactic(auto)]
+
+mod levels;
+
+pub use levels::{is_looser, level};
