@@ -1,1 +1,3 @@
 mod LevelLaws
+mod Prefixes
+mod Places

@@ -1,10 +1,10 @@
 //! How tightly an expression binds (ECMAScript 13.2 to 13.16).
 
-ghost use Rattle.std.specs.Prelude.{◌≡◌, map};
+ghost use Rattle.std.specs.Prelude.{◌≡◌, ◌≤◌, IfSome, map};
 ghost use Rattle.js_term.specs.Term.{all};
 ghost use Rattle.js_tree.specs.TermOf.{term};
 ghost use Rattle.js_tree.specs.Words.{texts_seen};
-ghost use Rattle.js_syntax.specs.Edges.{binary_level};
+ghost use Rattle.js_syntax.specs.Edges.{binary_level, is_coalesce_left};
 ghost use Rattle.js_syntax.specs.Levels.{level, level_by, level_first, level_or, logical_level};
 ghost use Rattle.print_layout.specs.Needs.{is_looser};
 ghost use Rattle.tree_printer.specs.Links.{is_link};
@@ -13,7 +13,8 @@ use js_tree::{Form, Kind, Node, Texts};
 
 /// The level of a binary operator but `**`.
 pub fn binary_level(operator: &str) -> Option<u8>
-    ensures { result ≡ binary_level operator.now }
+    ensures level { result ≡ binary_level operator.now }
+    ensures low { IfSome result (λ n. n ≤ 14) }
 {
     match operator {
         "|" => Some(7),
@@ -85,7 +86,11 @@ pub fn level(node: &Node) -> u8
         Form::Absent | Form::List => 0,
         Form::Node(kind) => {
             if is_link(kind) {
-                if first_level(node.kids()) == 19 { 19 } else { 20 }
+                if first_level(node.kids()) == 19 {
+                    19
+                } else {
+                    20
+                }
             } else {
                 own_level(kind, node.texts())
             }
@@ -100,6 +105,24 @@ fn first_level(parts: &[Node]) -> u8
     match parts {
         [] => 0,
         [first, ..] => level(first),
+    }
+}
+
+/// Whether the level is one that may stand before `??` (ECMAScript 13.13).
+#[tactic(auto, using(js_tree::proofs::TermOf::term_is, crate::proofs::LevelLaws::link_level, crate::proofs::LevelLaws::own_level))]
+pub fn is_coalesce_left(node: &Node) -> bool
+    ensures { result ≡ is_coalesce_left (level (term node.now)) }
+{
+    match node.form() {
+        Form::Absent | Form::List => false,
+        Form::Node(kind) => {
+            if is_link(kind) {
+                true
+            } else {
+                let level = own_level(kind, node.texts());
+                level == 4 || 7 <= level
+            }
+        }
     }
 }
 

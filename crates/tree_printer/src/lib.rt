@@ -1,6 +1,8 @@
 //! The printer of ECMAScript modules.
 #![tactic(auto)]
 
+mod leads;
+mod least;
 mod levels;
-
-pub use levels::{is_looser, level};
+mod needs;
+mod prefix;
