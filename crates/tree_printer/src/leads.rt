@@ -68,7 +68,7 @@ pub fn leads(opening: Opening, part: &Node) -> bool
 
 /// Whether the text of the first part of a node of this kind begins so.
 #[cycle(leads)]
-#[tactic(auto, using(js_tree::proofs::TermOf::term_is))]
+#[tactic(auto, using(js_tree::proofs::TermOf::term_is, crate::proofs::Smaller::parts_fall))]
 fn leads_in(opening: Opening, kind: Kind, texts: &Texts, part: &Node) -> bool
     ensures { result ≡ leads (test_of opening) (front_needs kind (texts_seen texts.now)) (term part.now) }
 {

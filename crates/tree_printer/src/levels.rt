@@ -78,7 +78,7 @@ fn own_level(kind: Kind, texts: &Texts) -> u8
 
 /// The level of an expression. It walks down members, as far as they go.
 #[cycle(level)]
-#[tactic(auto, using(js_tree::proofs::TermOf::term_is, crate::proofs::LevelLaws::link_level, crate::proofs::LevelLaws::own_level))]
+#[tactic(auto, using(js_tree::proofs::TermOf::term_is, crate::proofs::Smaller::parts_fall, crate::proofs::LevelLaws::link_level, crate::proofs::LevelLaws::own_level))]
 pub fn level(node: &Node) -> u8
     ensures { result ≡ level (term node.now) }
 {
