@@ -1,0 +1,4 @@
+mod LevelLaws
+mod Prefixes
+mod Places
+mod Smaller
