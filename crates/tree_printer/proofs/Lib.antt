@@ -1,0 +1,4 @@
+mod Characters
+mod FlagWords
+mod Parts
+mod Steps
