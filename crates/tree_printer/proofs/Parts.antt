@@ -1,10 +1,10 @@
 -- The parts of a node, as they are printed.
-use Rattle.std.proofs.Common.{◌≡◌, refl, sym, ap, ◌∙◌, ℕ, zero, suc, ◌+◌, ◌*◌, ◌<◌, ◌≤◌, List, [], ◌∷◌, ◌++◌, take, drop, map, Bool, true, false, not, ◌&&◌, ◌||◌, Option, None, Some, slice_get, arith}
+use Rattle.std.proofs.Common.{◌≡◌, refl, sym, ap, ◌∙◌, ℕ, zero, suc, ◌+◌, ◌*◌, ◌<◌, ◌≤◌, List, [], ◌∷◌, ◌++◌, take, drop, get_or, length, map, Bool, true, false, not, ◌&&◌, ◌||◌, if◌then◌else◌, Option, None, Some, slice_get, arith}
 use Rattle.std.proofs.lemmas.List.{take-map, drop-map}
 use denote.Param.Weighed.{most}
 use Rattle.js_term.specs.Term.{Text, Term, absent, list, node, Terms, none, more, all}
 use Rattle.js_term.specs.declared.kind.Kind.{Kind}
-use Rattle.js_tree.specs.TermOf.{term}
+use Rattle.js_tree.specs.TermOf.{by_form, term}
 use Rattle.js_tree.specs.Parts.{kids, top}
 use Rattle.js_tree.specs.declared.node.Form.{Form}
 use Rattle.js_tree.specs.declared.node.Form.TheVariants as form
@@ -65,7 +65,7 @@ each_of f j need [] = refl
 each_of f j need (x ∷ xs) = ap (λ z. text j need (f x) ∷ z) (each_of f j need xs)
 
 items_of : (j : Bool) (need : Term → Bool) (x : Node) (f : Form) → (top x).form ≡ f → items_text j need (term x) ≡ map (λ y. text j need (term y)) (by_list f (kids x))
-items_of j need x form.Absent e = ap (items_text j need) (term_is x ∙ ap (λ (g : Form). Rattle.js_tree.specs.TermOf.by_form g (top x).texts (all (map term (kids x)))) e)
+items_of j need x form.Absent e = ap (items_text j need) (term_is x ∙ ap (λ (g : Form). by_form g (top x).texts (all (map term (kids x)))) e)
 items_of j need x form.List e = ap (items_text j need) (term_of_list x e) ∙ each_of term j need (kids x)
 items_of j need x (form.Node kind) e = ap (items_text j need) (term_of_node x kind e)
 
@@ -91,16 +91,37 @@ woven_listed i kind n m k xs ys e d =
 
 -- ---- a node
 
-shown_held : (m i held : Bool) (kind : Kind) (texts : List Text) (ts : Terms) →
+pub shown_held : (m i held : Bool) (kind : Kind) (texts : List Text) (ts : Terms) →
     let p = not m && (held || (not i && is_in kind texts)) in
     let b = m || (i || p) in
     in_parentheses p (spread (row_as m b kind texts ts) (rows b kind texts 0 ts)) ≡ shown m i held (node kind texts ts)
 shown_held true i held kind texts ts = refl
 shown_held false i held kind texts ts = refl
 
+pub shown_node : (m i held p b : Bool) (n : Node) (kind : Kind) → (top n).form ≡ form.Node kind → p ≡ (not m && (held || (not i && is_in kind (top n).texts))) → b ≡ (m || (i || p)) →
+    in_parentheses p (spread (row_as m b kind (top n).texts (all (map term (kids n)))) (parts b kind n)) ≡ shown m i held (term n)
+shown_node m i held p b n kind e ep eb =
+    ap (λ z. in_parentheses p (spread (row_as m z kind (top n).texts (all (map term (kids n)))) (parts z kind n))) eb
+    ∙ (ap (λ z. in_parentheses z (spread (row_as m (m || (i || z)) kind (top n).texts (all (map term (kids n)))) (parts (m || (i || z)) kind n))) ep
+    ∙ (shown_held m i held kind (top n).texts (all (map term (kids n))) ∙ sym (ap (shown m i held) (term_of_node n kind e))))
+
+no_text : (m i held : Bool) → shown m i held absent ≡ []
+no_text true i held = refl
+no_text false i held = refl
+
+pub shown_absent : (m i held : Bool) (n : Node) → (top n).form ≡ form.Absent → shown m i held (term n) ≡ []
+shown_absent m i held n e = ap (shown m i held) (term_is n ∙ ap (λ (f : Form). by_form f (top n).texts (all (map term (kids n)))) e) ∙ no_text m i held
+
+no_list : (m i held : Bool) (ts : Terms) → shown m i held (list ts) ≡ []
+no_list true i held ts = refl
+no_list false i held ts = refl
+
+pub shown_list : (m i held : Bool) (n : Node) → (top n).form ≡ form.List → shown m i held (term n) ≡ []
+shown_list m i held n e = ap (shown m i held) (term_of_list n e) ∙ no_list m i held (all (map term (kids n)))
+
 -- ---- what is smaller
 
-listed_within : (n : Node) (k : ℕ) (p : Option Node) → slice_get (kids n) k ≡ p → most size-Node (listed p) + 1 ≤ size-Node n
+pub listed_within : (n : Node) (k : ℕ) (p : Option Node) → slice_get (kids n) k ≡ p → most size-Node (listed p) + 1 ≤ size-Node n
 listed_within n k None h = omega (arith, kids_are_smaller n)
 listed_within n k (Some x) h = by (top x).form
   where
@@ -108,3 +129,21 @@ listed_within n k (Some x) h = by (top x).form
     by form.Absent = omega (arith, kids_are_smaller n)
     by form.List = omega (arith, kids_are_smaller x, kid_is_smaller n k x h)
     by (form.Node kind) = omega (arith, kids_are_smaller n)
+
+pub heads_within : (m : ℕ) (xs : List Node) → most size-Node (take m xs) ≤ most size-Node xs
+heads_within zero xs = omega arith
+heads_within (suc m) [] = omega arith
+heads_within (suc m) (x ∷ xs) = omega (arith, heads_within m xs)
+
+pub past_within : (m : ℕ) (xs : List Node) → most size-Node (drop m xs) ≤ most size-Node xs
+past_within zero xs = omega arith
+past_within (suc m) [] = omega arith
+past_within (suc m) (x ∷ xs) = omega (arith, past_within m xs)
+
+pub item_within : (xs : List Node) (j : ℕ) (x : Node) → j < length xs → x ≡ get_or xs j x → size-Node x ≤ most size-Node xs
+item_within [] j x h e = absurd (omega arith)
+item_within (y ∷ xs) zero x h e = let d = ap size-Node e in omega arith
+item_within (y ∷ xs) (suc j) x h e = omega (arith, item_within xs j x (omega arith) e)
+
+pub listed_falls : (n : Node) (k : ℕ) (xs : List Node) → xs ≡ listed (slice_get (kids n) k) → most size-Node xs + 1 ≤ size-Node n
+listed_falls n k xs e = omega (arith, ap (most size-Node) e, listed_within n k (slice_get (kids n) k) refl)

@@ -4,7 +4,8 @@ ghost use Rattle.js_tree.specs.Parts.{top};
 ghost use Rattle.js_tree.specs.TermOf.{term};
 ghost use Rattle.js_tree.specs.Words.{texts_seen};
 ghost use Rattle.print_layout.specs.Layout.{is_method_part, module_text, part_at, separated, spread, template};
-ghost use Rattle.std.specs.Prelude.{◌≡◌, ◌++◌, IfOk, OnOk, map, string_bytes};
+ghost use Rattle.print_layout.specs.Needs.{is_in};
+ghost use Rattle.std.specs.Prelude.{◌≡◌, ◌++◌, ◌&&◌, ◌||◌, not, IfOk, OnOk, map, string_bytes};
 ghost use Rattle.tree_printer.specs.Pieces.{pieces_of, said};
 ghost use Rattle.tree_printer.specs.Printed.{item_text, parts, shown};
 
@@ -41,8 +42,8 @@ fn print_part(
         Form::Absent => Ok(()),
         Form::List => Ok(()),
         Form::Node(kind) => {
-            let parenthesized = !method && (held || (!i && is_in(kind, n.texts())));
-            let bare = method || i || parenthesized;
+            let parenthesized = is_parenthesized(method, i, held, kind, n.texts());
+            let bare = allows_in(method, i, parenthesized);
             let pieces = row_as(method, bare, kind, n);
             push_if(out, parenthesized, "(")?;
             print_row(out, bare, kind, n, &pieces)?;
@@ -175,4 +176,18 @@ fn is_method_part(kind: Kind, texts: &Texts, k: usize) -> bool
         Kind::ObjectProperty => k != 0 && is_method(texts),
         _ => false,
     }
+}
+
+/// Whether parentheses stand round a node.
+fn is_parenthesized(method: bool, i: bool, held: bool, kind: Kind, texts: &Texts) -> bool
+    ensures { result ≡ (not method && (held || (not i && is_in kind (texts_seen texts.now)))) }
+{
+    !method && (held || (!i && is_in(kind, texts)))
+}
+
+/// Whether a bare `in` may stand in a node.
+fn allows_in(method: bool, i: bool, parenthesized: bool) -> bool
+    ensures { result ≡ (method || (i || parenthesized)) }
+{
+    method || i || parenthesized
 }
