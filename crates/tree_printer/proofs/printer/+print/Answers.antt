@@ -1,5 +1,7 @@
-use Rattle.std.proofs.Common.{rules, ◌≡◌, ◌++◌, ◌∙◌, ◌+◌, ◌*◌, ◌<◌, ◌≤◌, OnOk, Some, None, Text, string_bytes, sym, ap, subst, arith, map, slice_get, List, Bool}
+use Rattle.std.proofs.Common.{rules, ◌≡◌, ◌++◌, ◌∙◌, ◌+◌, ◌*◌, ◌<◌, ◌≤◌, OnOk, Some, None, string_bytes, refl, not, ◌&&◌, ◌||◌, sym, ap, subst, arith, map, slice_get, List, Bool}
 use Rattle.std.proofs.lemmas.List.{append-nil}
+use Rattle.std.specs.Prelude.{codes}
+use Rattle.js_term.specs.Term.{flag}
 use denote.Param.Weighed.{most}
 use Rattle.js_tree.specs.Parts.{kids, top}
 use Rattle.js_tree.specs.TermOf.{term}
@@ -7,12 +9,12 @@ use Rattle.js_tree.specs.declared.node.Node.{size-Node}
 use Rattle.js_tree.proofs.TermOf.{term_is, term_of_node, term_of_list}
 use Rattle.js_tree.proofs.PartLaws.{kid_is_smaller}
 use Rattle.print_layout.specs.Needs.{inside, needs, is_in}
-use Rattle.print_layout.specs.Layout.{is_method_part, part_at, template}
+use Rattle.print_layout.specs.Layout.{in_parentheses, is_method_part, part_at, spread, template}
 use Rattle.tree_printer.specs.declared.piece.Piece.{Piece}
-use Rattle.tree_printer.specs.Pieces.{said}
+use Rattle.tree_printer.specs.Pieces.{pieces_of, said}
 use Rattle.tree_printer.specs.Printed.{item_text, listed, parts, shown}
 use Rattle.tree_printer.proofs.Parts.{shown_part, part_is_not, each_listed, heads_listed, past_listed, woven_listed, shown_node, shown_absent, shown_list, listed_falls, heads_within, past_within, item_within}
-use Rattle.tree_printer.proofs.Steps.{lone_quasi, no_quasi}
+use Rattle.tree_printer.proofs.Steps.{in_signs, lone_quasi, no_quasi}
 use Rattle.tree_printer.proofs.printer.+print.Goals as goal
 
 pub print_piece-print_part-requires : goal.print_piece-print_part-requires
@@ -93,3 +95,26 @@ pub print_piece-returns-in-Past : goal.print_piece-returns-in-Past
 print_piece-returns-in-Past t c =
     let is = ap (λ (p : Piece). said p (parts c.args.i c.args.kind c.args.n.now)) c.in-Past.is in
     subst (λ x. OnOk c.print_items-in-Past.result (string_bytes c.print_items-in-Past.new.out ≡ string_bytes c.args.out.now ++ x)) (past_listed c.args.i c.args.kind c.args.n.now c.in-Past.k c.in-Past.m c.in-Past.separator.now c.listed-in-Past.result.now c.past.result.now c.listed-in-Past.ensures c.past.ensures ∙ sym is) c.print_items-in-Past.ensures
+
+pub print_part-returns-in_ok-print_row-in-Node : goal.print_part-returns-in_ok-print_row-in-Node
+print_part-returns-in_ok-print_row-in-Node t c =
+    let held = c.is_parenthesized-parenthesized.result in
+    let bare = c.allows_in-bare.result in
+    let n = c.args.n.now in
+    let written = in_signs held (string_bytes c.args.out.now) (string_bytes c.push_if.new.out) (string_bytes c.print_row.new.out) (string_bytes c.print_row.new.out ++ flag held (codes ")")) (spread (pieces_of c.row_as-pieces.result) (parts bare c.in-Node.kind n)) c.in_ok-push_if-in-Node.ensures c.in_ok-print_row-in-Node.ensures refl in
+    let asked = c.is_parenthesized-parenthesized.ensures ∙ ap (λ ts. not c.args.method && (c.args.held || (not c.args.i && is_in c.in-Node.kind ts))) c.texts.ensures.seen in
+    let row = ap (λ ps. in_parentheses held (spread ps (parts bare c.in-Node.kind n))) c.row_as-pieces.ensures in
+    let whole = shown_node c.args.method c.args.i c.args.held held bare n c.in-Node.kind (sym c.in-Node.ensures) asked c.allows_in-bare.ensures in
+    subst (λ x. OnOk c.push_if-in-Node.result (string_bytes c.push_if-in-Node.new.out ≡ x)) (written ∙ ap (λ x. string_bytes c.args.out.now ++ x) (row ∙ whole)) c.push_if-in-Node.ensures
+
+pub print_template-returns-then-j-expressions : goal.print_template-returns-then-j-expressions
+print_template-returns-then-j-expressions t c =
+    let written = lone_quasi (item_text c.args.i c.args.kind c.args.n.now c.args.m) (item_text c.args.i c.args.kind c.args.n.now c.args.k) (string_bytes c.args.out.now ++ template (map (item_text c.args.i c.args.kind c.args.n.now c.args.m) c.listed-quasis.result.now) (map (item_text c.args.i c.args.kind c.args.n.now c.args.k) c.listed-expressions.result.now)) (string_bytes c.loop-j.out) (string_bytes c.print_item.new.out)
+    c.listed-quasis.result.now c.listed-expressions.result.now c.loop-j.j c.index-quasis-j.result c.loop-j-test.true c.index-quasis-j.is (omega arith) c.loop-j.invariant c.in_ok-print_item.ensures in
+    written ∙ ap (λ x. string_bytes c.args.out.now ++ x) (woven_listed c.args.i c.args.kind c.args.n.now c.args.m c.args.k c.listed-quasis.result.now c.listed-expressions.result.now c.listed-quasis.ensures c.listed-expressions.ensures)
+
+pub print_template-returns : goal.print_template-returns
+print_template-returns t c =
+    let written = no_quasi (item_text c.args.i c.args.kind c.args.n.now c.args.m) (item_text c.args.i c.args.kind c.args.n.now c.args.k) (string_bytes c.args.out.now ++ template (map (item_text c.args.i c.args.kind c.args.n.now c.args.m) c.listed-quasis.result.now) (map (item_text c.args.i c.args.kind c.args.n.now c.args.k) c.listed-expressions.result.now)) (string_bytes c.loop-j.out)
+    c.listed-quasis.result.now c.listed-expressions.result.now c.loop-j.j (omega arith) c.loop-j.invariant in
+    written ∙ ap (λ x. string_bytes c.args.out.now ++ x) (woven_listed c.args.i c.args.kind c.args.n.now c.args.m c.args.k c.listed-quasis.result.now c.listed-expressions.result.now c.listed-quasis.ensures c.listed-expressions.ensures)
