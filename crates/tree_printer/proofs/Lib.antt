@@ -1,4 +1,6 @@
 mod Characters
 mod FlagWords
+mod Kids
 mod Parts
 mod Steps
+mod Twice

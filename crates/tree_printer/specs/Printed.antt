@@ -1,5 +1,5 @@
 -- What is printed of a node and of its parts, over the nodes themselves.
-use Rattle.std.specs.Prelude.{ℕ, List, [], Option, None, Some, Bool, true, false, if◌then◌else◌, map}
+use Rattle.std.specs.Prelude.{ℕ, List, [], ◌∷◌, Option, None, Some, Bool, true, false, if◌then◌else◌, map}
 use Rattle.js_term.specs.Term.{Text, Term, Terms, all}
 use Rattle.js_term.specs.declared.kind.Kind.{Kind}
 use Rattle.js_tree.specs.TermOf.{term}
@@ -38,3 +38,11 @@ by_list (form.Node kind) xs = []
 abbrev pub listed : Option Node → List Node
 listed None = []
 listed (Some x) = by_list (top x).form (kids x)
+
+-- the parts of a node, as terms
+abbrev pub terms : Node → Terms
+terms n = all (map term (kids n))
+
+abbrev pub has_some : List Node → Bool
+has_some [] = false
+has_some (x ∷ xs) = true

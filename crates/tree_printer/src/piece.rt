@@ -50,3 +50,41 @@ pub fn past(items: &[Node], count: usize) -> &[Node]
 {
     if count < items.len() { &items[count..] } else { &[] }
 }
+
+macro_rules! row {
+    ($a:expr) => {
+        $crate::piece::row!($a, $crate::piece::Piece::Nothing)
+    };
+    ($a:expr, $b:expr) => {
+        $crate::piece::row!($a, $b, $crate::piece::Piece::Nothing)
+    };
+    ($a:expr, $b:expr, $c:expr) => {
+        $crate::piece::row!($a, $b, $c, $crate::piece::Piece::Nothing)
+    };
+    ($a:expr, $b:expr, $c:expr, $d:expr) => {
+        $crate::piece::row!($a, $b, $c, $d, $crate::piece::Piece::Nothing)
+    };
+    ($a:expr, $b:expr, $c:expr, $d:expr, $e:expr) => {
+        $crate::piece::row!($a, $b, $c, $d, $e, $crate::piece::Piece::Nothing)
+    };
+    ($a:expr, $b:expr, $c:expr, $d:expr, $e:expr, $f:expr) => {
+        $crate::piece::row!($a, $b, $c, $d, $e, $f, $crate::piece::Piece::Nothing)
+    };
+    ($a:expr, $b:expr, $c:expr, $d:expr, $e:expr, $f:expr, $g:expr) => {
+        $crate::piece::row!($a, $b, $c, $d, $e, $f, $g, $crate::piece::Piece::Nothing)
+    };
+    ($a:expr, $b:expr, $c:expr, $d:expr, $e:expr, $f:expr, $g:expr, $h:expr) => {
+        [
+            $a,
+            $b,
+            $c,
+            $d,
+            $e,
+            $f,
+            $g,
+            $h,
+            $crate::piece::Piece::Nothing,
+        ]
+    };
+}
+pub(crate) use row;
