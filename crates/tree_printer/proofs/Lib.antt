@@ -1,5 +1,8 @@
+mod Braces
 mod Characters
+mod Clauses
 mod FlagWords
+mod Holes
 mod Kids
 mod Parts
 mod Steps

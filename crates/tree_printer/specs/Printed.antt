@@ -1,13 +1,14 @@
 -- What is printed of a node and of its parts, over the nodes themselves.
-use Rattle.std.specs.Prelude.{ℕ, List, [], ◌∷◌, Option, None, Some, Bool, true, false, if◌then◌else◌, map}
-use Rattle.js_term.specs.Term.{Text, Term, Terms, all}
+use Rattle.std.specs.Prelude.{ℕ, List, [], ◌∷◌, ◌++◌, Option, None, Some, Bool, true, false, if◌then◌else◌, map, codes}
+use Rattle.js_term.specs.Term.{Text, Term, absent, list, node, Terms, none, all}
 use Rattle.js_term.specs.declared.kind.Kind.{Kind}
 use Rattle.js_tree.specs.TermOf.{term}
 use Rattle.js_tree.specs.Parts.{kids, top}
 use Rattle.js_tree.specs.declared.node.Form.{Form}
 use Rattle.js_tree.specs.declared.node.Form.TheVariants as form
 use Rattle.js_tree.specs.declared.node.Node.{Node}
-use Rattle.print_layout.specs.Rows.{Piece, row, method_row}
+use Rattle.js_syntax.specs.Parts.{is_node}
+use Rattle.print_layout.specs.Rows.{Piece, say, part, heads, comma, named, row, method_row}
 use Rattle.print_layout.specs.Needs.{inside, needs}
 use Rattle.print_layout.specs.Layout.{Printed, text, rows, method_text}
 
@@ -46,3 +47,33 @@ terms n = all (map term (kids n))
 abbrev pub has_some : List Node → Bool
 has_some [] = false
 has_some (x ∷ xs) = true
+
+-- an update of a target, by the texts of the node
+abbrev pub update : List Text → List Piece
+update texts = row true Kind.UpdateExpression texts none
+
+-- a property of an object
+abbrev pub object_property : List Text → Terms → List Piece
+object_property texts ts = row true Kind.ObjectProperty texts ts
+
+-- an import, and a default export
+abbrev pub import : Terms → List Piece
+import ts = row true Kind.ImportDeclaration [] ts
+
+abbrev pub opening : Bool → Text
+opening some = if some then codes "{ " else codes "{"
+
+abbrev pub closing : Bool → Text
+closing some = if some then codes " }" else codes "}"
+
+-- the row of an import with a list, by how many specifiers stand before the braces and whether any stand in them
+abbrev pub import_of : ℕ → Bool → List Piece
+import_of count some = say (codes "import ") ∷ (heads count comma 0 ∷ (named count some ++ (say (codes " from ") ∷ [])) ++ (part 1 ∷ say (codes ";") ∷ []))
+
+abbrev pub is_list : Term → Bool
+is_list absent = false
+is_list (list ts) = true
+is_list (node kind texts ts) = false
+
+abbrev pub is_named : Term → Bool
+is_named t = is_node Kind.ImportSpecifier t

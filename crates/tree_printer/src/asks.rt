@@ -2,11 +2,12 @@
 
 ghost use Rattle.js_syntax.specs.Parts.{is_node, is_present, is_set_at, text_of, texts_of};
 ghost use Rattle.js_term.specs.Scope.{kid};
-ghost use Rattle.js_term.specs.Term.{flag};
+ghost use Rattle.js_term.specs.Term.{all, flag, items};
+ghost use Rattle.js_tree.specs.TermOf.{term};
 ghost use Rattle.js_tree.specs.Parts.{top};
-ghost use Rattle.print_layout.specs.Rows.{has_items, set, there};
-ghost use Rattle.std.specs.Prelude.{◌≡◌, if◌then◌else◌};
-ghost use Rattle.tree_printer.specs.Printed.{terms};
+ghost use Rattle.print_layout.specs.Rows.{comma, ends_in_hole, ends_open, has_items, is_hole, set, there};
+ghost use Rattle.std.specs.Prelude.{◌≡◌, if◌then◌else◌, map};
+ghost use Rattle.tree_printer.specs.Printed.{closing, opening, terms};
 
 use crate::piece::listed;
 use crate::texts::is_set;
@@ -117,4 +118,62 @@ pub fn there<'a>(n: &Node, k: usize, word: &'a str) -> &'a str
     ensures { result.now ≡ there (kid k (terms n.now)) word.now }
 {
     when(has(n, k), word)
+}
+
+/// What stands before the pieces in braces, by whether there are any.
+pub fn opening<'a>(some: bool) -> &'a str
+    ensures { result.now ≡ opening some }
+{
+    if some { "{ " } else { "{" }
+}
+
+/// What stands behind the pieces in braces, by whether there are any.
+pub fn closing<'a>(some: bool) -> &'a str
+    ensures { result.now ≡ closing some }
+{
+    if some { " }" } else { "}" }
+}
+
+/// Whether nothing stands here.
+#[tactic(auto, using(js_tree::proofs::TermOf::term_is))]
+fn is_hole(n: &Node) -> bool
+    ensures { result ≡ is_hole (term n.now) }
+{
+    match n.form() {
+        Form::Absent => true,
+        Form::List => false,
+        Form::Node(_) => false,
+    }
+}
+
+#[tactic(auto, using(crate::proofs::Holes::last_hole, crate::proofs::Holes::no_hole))]
+fn is_last_hole(items: &[Node]) -> bool
+    ensures { result ≡ ends_in_hole (all (map term items.now)) }
+{
+    match items.last() {
+        None => false,
+        Some(last) => is_hole(last),
+    }
+}
+
+/// Whether the last item of the list numbered so is a hole.
+#[tactic(auto, using(crate::proofs::Kids::kid_items))]
+pub fn ends_in_hole(n: &Node, k: usize) -> bool
+    ensures { result ≡ ends_in_hole (items (kid k (terms n.now))) }
+{
+    is_last_hole(listed(n, k))
+}
+
+/// Whether items end with a hole, with no rest behind them.
+pub fn ends_open(n: &Node) -> bool
+    ensures { result ≡ ends_open (terms n.now) }
+{
+    !has(n, 1) && ends_in_hole(n, 0)
+}
+
+/// The comma between items and a rest behind them.
+pub fn rest_comma<'a>(n: &Node) -> &'a str
+    ensures { result.now ≡ flag (has_items (kid 0 (terms n.now))) (there (kid 1 (terms n.now)) comma) }
+{
+    when(has_items(n, 0), there(n, 1, ", "))
 }

@@ -2,11 +2,16 @@
 #![tactic(auto)]
 
 mod asks;
+mod functions;
+mod imports;
+mod modules;
 mod needs;
 mod piece;
+mod primaries;
 mod printer;
 mod rows;
 mod signs;
+mod statements;
 mod strings;
 mod texts;
 

@@ -1,14 +1,15 @@
 //! The row of each kind.
 
 ghost use Rattle.js_tree.specs.Parts.{top};
-ghost use Rattle.print_layout.specs.Rows.{primary_row, row, method_row};
+ghost use Rattle.print_layout.specs.Rows.{method_row, row};
 ghost use Rattle.std.specs.Prelude.{◌≡◌};
 ghost use Rattle.tree_printer.specs.Pieces.{pieces_of};
-ghost use Rattle.tree_printer.specs.Printed.{row_as, terms};
+ghost use Rattle.tree_printer.specs.Printed.{row_as, terms, update};
 
 use crate::asks::{either, flagged, set, there};
 use crate::piece::Piece::{self, Each, Part, Say};
 use crate::piece::row;
+use crate::primaries::primary_row;
 use crate::signs::sign_gap;
 use js_tree::{Kind, Node};
 
@@ -80,18 +81,13 @@ fn row<'a>(i: bool, kind: Kind, n: &'a Node) -> [Piece<'a>; 9]
     }
 }
 
+/// An operator before or behind its target.
 fn update_row<'a>(n: &'a Node) -> [Piece<'a>; 9]
-    ensures { pieces_of result ≡ row true Rattle.js_term.specs.declared.kind.Kind.Kind.UpdateExpression (top n.now).texts (terms n.now) }
+    ensures { pieces_of result ≡ update (top n.now).texts }
 {
     if flagged(n, 1) {
         row!(Say(n.text()), Part(0))
     } else {
         row!(Part(0), Say(n.text()))
     }
-}
-
-fn primary_row<'a>(i: bool, kind: Kind, n: &'a Node) -> [Piece<'a>; 9]
-    ensures { pieces_of result ≡ primary_row i kind (top n.now).texts (terms n.now) }
-{
-    [Piece::Nothing; 9]
 }
