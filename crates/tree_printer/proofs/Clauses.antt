@@ -44,7 +44,7 @@ pub out_later : (xs : List Node) (j total : ℕ) (x : Node) → j < length xs �
 out_later xs j total x h e is was =
     rw add-one
     (let left : outside (all (map term (drop j xs))) ≡ suc (outside (all (map term (drop (suc j) xs)))) = ap outside (from_here xs j x h e) ∙ out_by false (term x) (all (map term (drop (suc j) xs))) is in
-     omega (arith, left, was))
+    omega (arith, left, was))
 
 pub out_last : (xs : List Node) (j total : ℕ) → length xs ≤ j → j ≤ length xs → j + outside (all (map term (drop j xs))) ≡ total → length xs ≡ total
 out_last xs j total h k was =

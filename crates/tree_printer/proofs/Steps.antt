@@ -75,9 +75,9 @@ pub next_quasi : {A : Type 0} (F G : A → Text) (total out one two three new : 
 next_quasi F G total out one two three new qs es j q e h hq k he was p r s t =
     rw add-one
     (let left = template (map F (drop (suc j) qs)) (map G (drop (suc j) es)) in
-     ap (λ z. z ++ left) t ∙ (append_assoc three (codes "}") left ∙ (ap (λ z. z ++ (codes "}" ++ left)) s ∙ (append_assoc two (G e) (codes "}" ++ left) ∙ (ap (λ z. z ++ (G e ++ (codes "}" ++ left))) r
-     ∙ (append_assoc one (codes "${") (G e ++ (codes "}" ++ left)) ∙ more_written total out one (template (map F (drop j qs)) (map G (drop j es))) (F q) (codes "${" ++ (G e ++ (codes "}" ++ left))) was
-     (ap (λ ys. template (map F ys) (map G (drop j es))) (from_here qs j q h hq) ∙ ap (λ ys. template (F q ∷ map F (drop (suc j) qs)) (map G ys)) (from_here es j e k he)) p))))))
+    ap (λ z. z ++ left) t ∙ (append_assoc three (codes "}") left ∙ (ap (λ z. z ++ (codes "}" ++ left)) s ∙ (append_assoc two (G e) (codes "}" ++ left) ∙ (ap (λ z. z ++ (G e ++ (codes "}" ++ left))) r
+    ∙ (append_assoc one (codes "${") (G e ++ (codes "}" ++ left)) ∙ more_written total out one (template (map F (drop j qs)) (map G (drop j es))) (F q) (codes "${" ++ (G e ++ (codes "}" ++ left))) was
+    (ap (λ ys. template (map F ys) (map G (drop j es))) (from_here qs j q h hq) ∙ ap (λ ys. template (F q ∷ map F (drop (suc j) qs)) (map G ys)) (from_here es j e k he)) p))))))
 
 pub lone_quasi : {A : Type 0} (F G : A → Text) (total out new : Text) (qs es : List A) (j : ℕ) (q : A) → j < length qs → q ≡ get_or qs j q → length es ≤ j → out ++ template (map F (drop j qs)) (map G (drop j es)) ≡ total → new ≡ out ++ F q → new ≡ total
 lone_quasi F G total out new qs es j q h hq k was is =

@@ -18,12 +18,37 @@ pub fn needs(kind: Kind, texts: &Texts, k: usize, part: &Node) -> bool
 pub fn inside(i: bool, kind: Kind, k: usize) -> bool
     ensures { result ≡ inside i kind k }
 {
-    true
+    match kind {
+        Kind::ForStatement | Kind::ForInStatement | Kind::ForOfStatement => k != 0,
+        Kind::VariableDeclarator | Kind::ArrowFunctionExpression => k == 0 || i,
+        Kind::VariableDeclaration
+        | Kind::SequenceExpression
+        | Kind::AssignmentExpression
+        | Kind::YieldExpression
+        | Kind::LogicalExpression
+        | Kind::BinaryExpression
+        | Kind::UnaryExpression
+        | Kind::AwaitExpression
+        | Kind::UpdateExpression
+        | Kind::ChainExpression => i,
+        Kind::ConditionalExpression => k == 1 || i,
+        Kind::CallExpression
+        | Kind::StaticMemberExpression
+        | Kind::ComputedMemberExpression
+        | Kind::PrivateFieldExpression
+        | Kind::TaggedTemplateExpression
+        | Kind::NewExpression => k != 0 || i,
+        _ => true,
+    }
 }
 
 /// Whether it is an expression with a bare `in`.
 pub fn is_in(kind: Kind, texts: &Texts) -> bool
     ensures { result ≡ is_in kind (texts_seen texts.now) }
 {
-    false
+    match kind {
+        Kind::BinaryExpression => texts.first() == "in",
+        Kind::PrivateInExpression => true,
+        _ => false,
+    }
 }

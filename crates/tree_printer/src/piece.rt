@@ -41,14 +41,22 @@ pub fn listed(n: &Node, k: usize) -> &[Node]
 pub fn heads(items: &[Node], count: usize) -> &[Node]
     ensures { result.now ≡ take count items.now }
 {
-    if count < items.len() { &items[..count] } else { items }
+    if count < items.len() {
+        &items[..count]
+    } else {
+        items
+    }
 }
 
 /// The items behind so many at the front.
 pub fn past(items: &[Node], count: usize) -> &[Node]
     ensures { result.now ≡ drop count items.now }
 {
-    if count < items.len() { &items[count..] } else { &[] }
+    if count < items.len() {
+        &items[count..]
+    } else {
+        &[]
+    }
 }
 
 macro_rules! row {
@@ -87,4 +95,5 @@ macro_rules! row {
         ]
     };
 }
+
 pub(crate) use row;

@@ -11,7 +11,10 @@ ghost use Rattle.std.specs.Prelude.{◌++◌, codes};
 ghost use Rattle.js_term.specs.Term.{flag};
 ghost use Rattle.tree_printer.specs.Printed.{object_property, terms};
 
-use crate::asks::{closing, ends_in_hole, ends_open, flagged, has, has_items, is_part_set, opening, rest_comma, when};
+use crate::asks::{
+    closing, ends_in_hole, ends_open, flagged, has, has_items, is_part_set, opening, rest_comma,
+    when,
+};
 use crate::functions::function_row;
 use crate::piece::Piece::{self, Each, Part, Quoted, Say, Woven};
 use crate::piece::row;

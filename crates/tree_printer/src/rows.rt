@@ -17,7 +17,11 @@ use js_tree::{Kind, Node};
 pub fn row_as<'a>(method: bool, i: bool, kind: Kind, n: &'a Node) -> [Piece<'a>; 9]
     ensures { pieces_of result ≡ row_as method i kind (top n.now).texts (terms n.now) }
 {
-    if method { method_row() } else { row(i, kind, n) }
+    if method {
+        method_row()
+    } else {
+        row(i, kind, n)
+    }
 }
 
 /// The function of a method: its parameters and its body.

@@ -22,16 +22,12 @@ pub fn statement_row<'a>(i: bool, kind: Kind, n: &'a Node) -> [Piece<'a>; 9]
             let some = has_items(n, 0);
             row!(Say(opening(some)), Each(" ", 0), Say(closing(some)))
         }
-        Kind::BreakStatement => {
-            row!(Say("break"), Say(there(n, 0, " ")), Part(0), Say(";"))
-        }
+        Kind::BreakStatement => { row!(Say("break"), Say(there(n, 0, " ")), Part(0), Say(";")) }
         Kind::ContinueStatement => {
             row!(Say("continue"), Say(there(n, 0, " ")), Part(0), Say(";"))
         }
         Kind::DebuggerStatement => row!(Say("debugger;")),
-        Kind::DoWhileStatement => {
-            row!(Say("do "), Part(0), Say(" while ("), Part(1), Say(");"))
-        }
+        Kind::DoWhileStatement => { row!(Say("do "), Part(0), Say(" while ("), Part(1), Say(");")) }
         Kind::EmptyStatement => row!(Say(";")),
         Kind::ExpressionStatement => row!(Part(0), Say(";")),
         Kind::ForInStatement => row!(
@@ -71,9 +67,7 @@ pub fn statement_row<'a>(i: bool, kind: Kind, n: &'a Node) -> [Piece<'a>; 9]
             Part(2)
         ),
         Kind::LabeledStatement => row!(Part(0), Say(": "), Part(1)),
-        Kind::ReturnStatement => {
-            row!(Say("return"), Say(there(n, 0, " ")), Part(0), Say(";"))
-        }
+        Kind::ReturnStatement => { row!(Say("return"), Say(there(n, 0, " ")), Part(0), Say(";")) }
         Kind::SwitchStatement => {
             let some = has_items(n, 1);
             row!(
