@@ -13,6 +13,8 @@ mod rows;
 mod signs;
 mod statements;
 mod strings;
+#[cfg(test)]
+mod tests;
 mod texts;
 
 pub use printer::print_module;
