@@ -2,11 +2,11 @@
 use Rattle.std.proofs.Common.{◌≡◌, refl, ap, ◌∙◌, sym, ℕ, zero, suc, ◌+◌, ◌<◌, ◌≤◌, List, [], ◌∷◌, ◌++◌, length, drop, get_or, map, Bool, true, false, ◌||◌, if◌then◌else◌, arith, add-one, drop-cons}
 use Rattle.std.specs.Prelude.{codes}
 use Rattle.std.proofs.lemmas.List.{drop_all}
-use Rattle.js_term.specs.Term.{Term, absent, list, node, Terms, none, more, items, all}
+use Rattle.js_term.specs.Term.{Term, absent, list, node, Terms, more, items, all}
 use Rattle.js_term.specs.Scope.{kid}
 use Rattle.js_tree.specs.TermOf.{term}
 use Rattle.js_tree.specs.declared.node.Node.{Node}
-use Rattle.print_layout.specs.Rows.{Piece, say, part, past, comma, when, braces, named, outside, has_named, import_clause}
+use Rattle.print_layout.specs.Rows.{say, part, past, comma, when, braces, named, outside, has_named, import_clause}
 use Rattle.tree_printer.specs.Printed.{import, import_of, is_list, is_named}
 
 clause_is : (t : Term) (us : Terms) → is_list t ≡ true → items t ≡ us → import_clause t ≡ import_clause (list us)

@@ -1,6 +1,6 @@
 -- The last item of a list.
-use Rattle.std.proofs.Common.{◌≡◌, refl, ap, ◌∙◌, sym, ℕ, zero, suc, ◌-◌, List, [], ◌∷◌, length, map, Bool, true, false, arith}
-use Rattle.std.specs.Prelude.{Option, None, Some, slice_get}
+use Rattle.std.proofs.Common.{◌≡◌, refl, ap, ◌∙◌, ℕ, zero, suc, ◌-◌, List, [], ◌∷◌, length, map, true, false, arith}
+use Rattle.std.specs.Prelude.{None, Some, slice_get}
 use Rattle.js_term.specs.Term.{all}
 use Rattle.js_tree.specs.TermOf.{term}
 use Rattle.js_tree.specs.declared.node.Node.{Node}

@@ -1,7 +1,7 @@
 -- The kids of a node, one by one.
-use Rattle.std.proofs.Common.{◌≡◌, ℕ, zero, suc, refl, sym, ap, ◌∙◌, List, [], ◌∷◌, map, Bool, true, false}
+use Rattle.std.proofs.Common.{◌≡◌, ℕ, zero, suc, refl, ap, ◌∙◌, List, [], ◌∷◌, map}
 use Rattle.std.specs.Prelude.{Option, None, Some, option_map, slice_get}
-use Rattle.js_term.specs.Term.{Term, Terms, maybe, items, all}
+use Rattle.js_term.specs.Term.{Term, maybe, items, all}
 use Rattle.js_term.specs.Scope.{kid}
 use Rattle.js_tree.specs.TermOf.{by_form, term}
 use Rattle.js_tree.specs.Parts.{kids, top}

@@ -1,8 +1,8 @@
 -- The parts of a node, as they are printed.
-use Rattle.std.proofs.Common.{◌≡◌, refl, sym, ap, ◌∙◌, ℕ, zero, suc, ◌+◌, ◌*◌, ◌<◌, ◌≤◌, List, [], ◌∷◌, ◌++◌, take, drop, get_or, length, map, Bool, true, false, not, ◌&&◌, ◌||◌, if◌then◌else◌, Option, None, Some, slice_get, arith}
+use Rattle.std.proofs.Common.{◌≡◌, refl, sym, ap, ◌∙◌, ℕ, zero, suc, ◌+◌, ◌<◌, ◌≤◌, List, [], ◌∷◌, take, drop, get_or, length, map, Bool, true, false, not, ◌&&◌, ◌||◌, if◌then◌else◌, Option, None, Some, slice_get, arith}
 use Rattle.std.proofs.lemmas.List.{take-map, drop-map}
 use denote.Param.Weighed.{most}
-use Rattle.js_term.specs.Term.{Text, Term, absent, list, node, Terms, none, more, all}
+use Rattle.js_term.specs.Term.{Text, Term, absent, list, node, Terms, all}
 use Rattle.js_term.specs.declared.kind.Kind.{Kind}
 use Rattle.js_tree.specs.TermOf.{by_form, term}
 use Rattle.js_tree.specs.Parts.{kids, top}
@@ -12,7 +12,6 @@ use Rattle.js_tree.specs.declared.node.Node.{Node, size-Node}
 use Rattle.js_tree.proofs.TermOf.{term_is, term_of_node, term_of_list}
 use Rattle.js_tree.proofs.PartLaws.{kids_are_smaller, kid_is_smaller}
 use Rattle.print_layout.specs.Needs.{inside, needs, is_in}
-use Rattle.print_layout.specs.Rows.{row, method_row}
 use Rattle.print_layout.specs.Layout.{Printed, nothing, part_at, text, rows, spread, in_parentheses, is_method_part, method_text, items_text, each_text, separated, template}
 use Rattle.tree_printer.specs.Printed.{shown, row_as, parts, item_text, by_list, listed}
 

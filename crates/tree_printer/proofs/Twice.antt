@@ -1,5 +1,5 @@
 -- A text that is another one twice.
-use Rattle.std.proofs.Common.{◌≡◌, refl, ap, ◌∙◌, sym, ℕ, List, [], ◌∷◌, ◌++◌, length, take, drop, Bool, true, false, ◌&&◌, nat_eq}
+use Rattle.std.proofs.Common.{◌≡◌, refl, ap, ◌∙◌, [], ◌∷◌, ◌++◌, length, take, drop, Bool, true, false, ◌&&◌, nat_eq}
 use Rattle.js_term.specs.Term.{Text, is_text}
 
 both_first : (a b c : Bool) → (a && (b && c)) ≡ ((a && b) && c)

@@ -1,18 +1,16 @@
-use Rattle.std.proofs.Common.{rules, ◌≡◌, ◌++◌, ◌∙◌, ◌+◌, ◌*◌, ◌<◌, ◌≤◌, OnOk, Some, None, string_bytes, refl, not, ◌&&◌, ◌||◌, sym, ap, subst, arith, map, slice_get, List, Bool}
+use Rattle.std.proofs.Common.{rules, ◌≡◌, ◌++◌, ◌∙◌, ◌+◌, ◌*◌, ◌<◌, OnOk, string_bytes, refl, not, ◌&&◌, ◌||◌, sym, ap, subst, arith, map}
 use Rattle.std.proofs.lemmas.List.{append-nil}
 use Rattle.std.specs.Prelude.{codes}
 use Rattle.js_term.specs.Term.{flag}
 use denote.Param.Weighed.{most}
-use Rattle.js_tree.specs.Parts.{kids, top}
 use Rattle.js_tree.specs.TermOf.{term}
 use Rattle.js_tree.specs.declared.node.Node.{size-Node}
-use Rattle.js_tree.proofs.TermOf.{term_is, term_of_node, term_of_list}
 use Rattle.js_tree.proofs.PartLaws.{kid_is_smaller}
-use Rattle.print_layout.specs.Needs.{inside, needs, is_in}
-use Rattle.print_layout.specs.Layout.{in_parentheses, is_method_part, part_at, spread, template}
+use Rattle.print_layout.specs.Needs.{needs, is_in}
+use Rattle.print_layout.specs.Layout.{in_parentheses, is_method_part, spread, template}
 use Rattle.tree_printer.specs.declared.piece.Piece.{Piece}
 use Rattle.tree_printer.specs.Pieces.{pieces_of, said}
-use Rattle.tree_printer.specs.Printed.{item_text, listed, parts, shown}
+use Rattle.tree_printer.specs.Printed.{item_text, parts}
 use Rattle.tree_printer.proofs.Parts.{shown_part, part_is_not, each_listed, heads_listed, past_listed, woven_listed, shown_node, shown_absent, shown_list, listed_falls, heads_within, past_within, item_within}
 use Rattle.tree_printer.proofs.Steps.{in_signs, lone_quasi, no_quasi}
 use Rattle.tree_printer.proofs.printer.+print.Goals as goal

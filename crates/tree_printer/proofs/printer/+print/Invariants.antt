@@ -1,7 +1,7 @@
 use Rattle.std.proofs.Common.{◌≡◌, ◌+◌, ◌*◌, ◌++◌, string_bytes, map, drop}
 use denote.Param.Weighed.{most}
 use Rattle.js_tree.specs.declared.node.Node.{size-Node}
-use Rattle.print_layout.specs.Layout.{spread, separated, template, part_at}
+use Rattle.print_layout.specs.Layout.{spread, separated, template}
 use Rattle.tree_printer.specs.Pieces.{pieces_of}
 use Rattle.tree_printer.specs.Printed.{item_text, parts}
 use Rattle.tree_printer.proofs.Steps.{onward}
