@@ -56,7 +56,7 @@ update texts = row true Kind.UpdateExpression texts none
 abbrev pub object_property : List Text → Terms → List Piece
 object_property texts ts = row true Kind.ObjectProperty texts ts
 
--- an import, and a default export
+-- an import; its texts tell nothing
 abbrev pub import : Terms → List Piece
 import ts = row true Kind.ImportDeclaration [] ts
 

@@ -8,7 +8,7 @@ ghost use Rattle.js_term.specs.declared.kind.Kind.TheVariants as Kind;
 ghost use Rattle.tree_printer.specs.Pieces.{pieces_of};
 ghost use Rattle.js_term.specs.Scope.{kid};
 ghost use Rattle.print_layout.specs.Rows.{are_one, hashbang_line, module_row, say, specifier};
-ghost use Rattle.tree_printer.specs.Printed.{import, terms};
+ghost use Rattle.tree_printer.specs.Printed.{terms};
 
 use crate::asks::{closing, either, has_items, is_part, opening, part_text, there, when};
 use crate::imports::import_row;

@@ -1,6 +1,5 @@
 //! The interpreter of rows.
 
-ghost use Rattle.js_tree.specs.Parts.{top};
 ghost use Rattle.js_tree.specs.TermOf.{term};
 ghost use Rattle.js_tree.specs.Words.{texts_seen};
 ghost use Rattle.print_layout.specs.Layout.{is_method_part, module_text, part_at, separated, spread, template};
