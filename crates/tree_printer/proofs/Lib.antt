@@ -2,3 +2,12 @@ mod LevelLaws
 mod Prefixes
 mod Places
 mod Smaller
+mod Braces
+mod Characters
+mod Clauses
+mod FlagWords
+mod Holes
+mod Kids
+mod Parts
+mod Steps
+mod Twice
