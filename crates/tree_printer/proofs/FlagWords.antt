@@ -1,5 +1,5 @@
 -- The flags of a regular expression, by their letters: what is tried at each choice of letters holds.
-use Rattle.std.proofs.Common.{◌≡◌, refl, arith, ◌∙◌, sym, ap, ℕ, zero, suc, List, [], ◌∷◌, ◌++◌, length, true, false}
+use Rattle.std.proofs.Common.{◌≡◌, refl, arith, ℕ, zero, suc, List, [], ◌∷◌, ◌++◌, length, true, false}
 use Rattle.std.specs.Prelude.{Bool, not, ◌&&◌, ◌||◌, codes, nat_eq, bit_and}
 use Rattle.std.proofs.lemmas.Bool.{and_parts}
 use Rattle.js_term.specs.Term.{Text, flag}
