@@ -1,3 +1,4 @@
+pub mod Following
 pub mod Edges
 pub mod NodeParts
 pub mod Punctuators
