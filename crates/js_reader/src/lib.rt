@@ -1,4 +1,4 @@
-//! The reader of modules. What reads the parts of a part is handed down, so that no function here calls itself.
+//! The reader of modules. What reads the parts of a part is handed down, so that no production calls itself.
 #![tactic(auto)]
 
 mod ahead;

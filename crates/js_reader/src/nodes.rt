@@ -210,7 +210,7 @@ pub fn is_try(handler: &Node, finalizer: &Node) -> bool
     !handler.is_absent() || !finalizer.is_absent()
 }
 
-/// The same of a part.
+/// Whether a statement, which may be missing, ends in an `if` without `else`.
 #[tactic(auto, using(js_tree::proofs::TermOf::term_is, crate::proofs::NodeParts::kid_open))]
 fn part_ends_open(statement: Option<&Node>) -> bool
     ensures { result ≡ printable.ends_open (term_in statement.entry) }
@@ -230,7 +230,7 @@ fn part_ends_open(statement: Option<&Node>) -> bool
     }
 }
 
-/// Whether a statement ends in an `if` without `else`, which would take the `else` behind it (14.6).
+/// Whether a statement ends in an `if` that would take an `else` behind it (14.6).
 pub fn ends_open(statement: &Node) -> bool
     ensures { result ≡ printable.ends_open (term statement.now) }
 {
