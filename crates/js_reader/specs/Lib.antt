@@ -2,3 +2,4 @@ pub mod Reads
 pub mod Edges
 pub mod NodeParts
 pub mod Summed
+pub mod Operations

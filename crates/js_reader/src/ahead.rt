@@ -36,7 +36,7 @@ pub fn arrow_here(tokens: &Tokens<'_>) -> bool
 pub fn ends_here(tokens: &Tokens<'_>) -> bool
     ensures { result ≡ statements.ends_here tokens.now }
 {
-    sees(tokens, Punctuator::Semicolon) || left_out(Edge::Plain, tokens) || !same_line(tokens)
+    sees(tokens, Punctuator::Semicolon) || left_out(tokens, Edge::Plain) || !same_line(tokens)
 }
 
 /// Whether no operand of a `yield` stands here.

@@ -1,6 +1,6 @@
 //! Whether a token goes on with what stands in front of it, behind a line end.
 
-ghost use Rattle.std.specs.Prelude.{◌≡◌, ◌∷◌, [], map, codes};
+ghost use Rattle.std.specs.Prelude.{◌≡◌, ◌∷◌, [], map, codes, take, drop};
 ghost use Rattle.js_term.specs.Lexeme.{is_one_of};
 ghost use Rattle.js_syntax.specs.Edges as spec;
 ghost use Rattle.js_tokens.specs.Lexemes.{lexeme_of};
@@ -8,11 +8,12 @@ ghost use Rattle.js_tokens.specs.PunctuatorTexts.{text_of};
 ghost use Rattle.js_reader.specs.Edges.{edge_of};
 
 use crate::edge::Edge;
+use crate::operators::assignment_operator;
 use js_tokens::{Lexeme, Punctuator};
 
-/// Whether it is a binary, logical or assignment operator, `?` or `,`.
-fn is_operator_sign(punctuator: Punctuator) -> bool
-    ensures { result ≡ is_one_of (text_of punctuator) spec.operator_signs }
+/// Whether it is a binary or logical operator.
+fn is_binary_sign(punctuator: Punctuator) -> bool
+    ensures { result ≡ is_one_of (text_of punctuator) (take 23 spec.operator_signs) }
 {
     matches!(
         punctuator,
@@ -39,25 +40,22 @@ fn is_operator_sign(punctuator: Punctuator) -> bool
             | Punctuator::And
             | Punctuator::Or
             | Punctuator::Coalesce
-            | Punctuator::Assign
-            | Punctuator::PlusAssign
-            | Punctuator::MinusAssign
-            | Punctuator::StarAssign
-            | Punctuator::SlashAssign
-            | Punctuator::PercentAssign
-            | Punctuator::PowerAssign
-            | Punctuator::ShiftLeftAssign
-            | Punctuator::ShiftRightAssign
-            | Punctuator::ShiftRightUnsignedAssign
-            | Punctuator::AmpersandAssign
-            | Punctuator::BarAssign
-            | Punctuator::CaretAssign
-            | Punctuator::AndAssign
-            | Punctuator::OrAssign
-            | Punctuator::CoalesceAssign
-            | Punctuator::Question
-            | Punctuator::Comma
     )
+}
+
+/// Whether it is an assignment operator, `?` or `,`.
+fn is_loose_sign(punctuator: Punctuator) -> bool
+    ensures { result ≡ is_one_of (text_of punctuator) (drop 23 spec.operator_signs) }
+{
+    assignment_operator(punctuator).is_some()
+        || matches!(punctuator, Punctuator::Question | Punctuator::Comma)
+}
+
+#[tactic(auto, using(crate::proofs::Signs::operator_signs_in_parts))]
+fn is_operator_sign(punctuator: Punctuator) -> bool
+    ensures { result ≡ is_one_of (text_of punctuator) spec.operator_signs }
+{
+    is_binary_sign(punctuator) || is_loose_sign(punctuator)
 }
 
 /// Whether it goes on with an expression, not with a call or a member.

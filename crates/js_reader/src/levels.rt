@@ -1,6 +1,6 @@
 //! How tightly a token takes the expression in front of it (ECMAScript 13.3 to 13.15).
 
-ghost use Rattle.std.specs.Prelude.{◌≡◌, Some, drop};
+ghost use Rattle.std.specs.Prelude.{◌≡◌, ◌≤◌, IfSome, Some, drop};
 ghost use Rattle.js_term.specs.Lexeme.{is_one_of};
 ghost use Rattle.js_syntax.specs.Edges as edges;
 ghost use Rattle.js_syntax.specs.Texts as texts;
@@ -16,7 +16,8 @@ use js_tokens::{Lexeme, Punctuator, Tokens};
 
 /// The level of a shift, a sum or a product.
 fn arithmetic_level(punctuator: Punctuator) -> Option<u8>
-    ensures { result ≡ edges.level_among (text_of punctuator) (drop 5 edges.operator_levels) }
+    ensures is { result ≡ edges.level_among (text_of punctuator) (drop 5 edges.operator_levels) }
+    ensures small { IfSome result (λ level. level ≤ 14) }
 {
     match punctuator {
         Punctuator::ShiftLeft | Punctuator::ShiftRight | Punctuator::ShiftRightUnsigned => Some(12),
@@ -28,7 +29,8 @@ fn arithmetic_level(punctuator: Punctuator) -> Option<u8>
 
 /// The level of a comparison.
 fn comparison_level(punctuator: Punctuator) -> Option<u8>
-    ensures { result ≡ edges.level_among (text_of punctuator) (drop 3 edges.operator_levels) }
+    ensures is { result ≡ edges.level_among (text_of punctuator) (drop 3 edges.operator_levels) }
+    ensures small { IfSome result (λ level. level ≤ 14) }
 {
     match punctuator {
         Punctuator::Equal
@@ -43,7 +45,8 @@ fn comparison_level(punctuator: Punctuator) -> Option<u8>
 
 /// The level of a binary operator but `**`.
 pub fn binary_level(punctuator: Punctuator) -> Option<u8>
-    ensures { result ≡ edges.binary_level (text_of punctuator) }
+    ensures is { result ≡ edges.binary_level (text_of punctuator) }
+    ensures small { IfSome result (λ level. level ≤ 14) }
 {
     match punctuator {
         Punctuator::Bar => Some(7),

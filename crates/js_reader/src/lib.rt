@@ -1,4 +1,4 @@
-//! The reader of modules. What reads the parts of a part is handed down, so that no function here calls itself.
+//! The reader of modules. What reads the parts of a part is handed down, so that no production calls itself.
 #![tactic(auto)]
 
 mod ahead;
@@ -8,6 +8,7 @@ mod fault;
 mod found;
 mod levels;
 mod nodes;
+mod operations;
 mod operators;
 mod semicolons;
 mod tokens;
@@ -23,8 +24,9 @@ pub use found::{Found, Listed, Listing};
 pub use levels::{binary_level, goes_on, member_level};
 pub use nodes::{
     ends_open, is_bare_new, is_body, is_constructor, is_named, is_node, is_private_member,
-    is_simple_target, is_try, is_unnamed,
+    is_simple_target, is_switch, is_try, is_unnamed,
 };
+pub use operations::{Operation, sign_operation, word_operation};
 pub use operators::{
     assignment_operator, binary_operator, binary_word, logical_level, logical_operator,
     logical_right, unary_operator, unary_word, update_operator,

@@ -1,9 +1,9 @@
 //! What is asked of a node.
 
-ghost use Rattle.std.specs.Prelude.{◌≡◌, ◌<◌, codes};
+ghost use Rattle.std.specs.Prelude.{◌≡◌, ◌<◌, codes, map};
 ghost use Rattle.js_term.specs.Kinds.{is_among};
 ghost use Rattle.js_term.specs.Scope.{kid};
-ghost use Rattle.js_term.specs.Term.{absent, flag, is_text};
+ghost use Rattle.js_term.specs.Term.{absent, all, flag, list, two};
 ghost use Rattle.js_syntax.specs.Edges as edges;
 ghost use Rattle.js_syntax.specs.Nodes.{three};
 ghost use Rattle.js_syntax.specs.Parts as parts;
@@ -210,7 +210,7 @@ pub fn is_try(handler: &Node, finalizer: &Node) -> bool
     !handler.is_absent() || !finalizer.is_absent()
 }
 
-/// The same of a part.
+/// Whether a statement, which may be missing, ends in an `if` without `else`.
 #[tactic(auto, using(js_tree::proofs::TermOf::term_is, crate::proofs::NodeParts::kid_open))]
 fn part_ends_open(statement: Option<&Node>) -> bool
     ensures { result ≡ printable.ends_open (term_in statement.entry) }
@@ -230,9 +230,30 @@ fn part_ends_open(statement: Option<&Node>) -> bool
     }
 }
 
-/// Whether a statement ends in an `if` without `else`, which would take the `else` behind it (14.6).
+/// Whether a statement ends in an `if` that would take an `else` behind it (14.6).
 pub fn ends_open(statement: &Node) -> bool
     ensures { result ≡ printable.ends_open (term statement.now) }
 {
     part_ends_open(Some(statement))
+}
+
+fn is_default(case: &Node) -> bool
+    ensures { result ≡ printable.is_default (term case.now) }
+{
+    !is_present(part(case, 0))
+}
+
+/// Whether at most one of the cases of a `switch` is a default (14.12).
+pub fn is_switch(cases: &[Node]) -> bool
+    ensures { result ≡ printable.is_switch (two absent (list (all (map term cases.now)))) }
+{
+    let mut found = false;
+    for case in cases {
+        let more = is_default(case);
+        if more && found {
+            return false;
+        }
+        found = found || more;
+    }
+    true
 }

@@ -39,7 +39,7 @@ fn goes_on_at(edge: Edge, next: Option<Lexeme<'_>>) -> bool
 
 /// Whether a semicolon may be left out here.
 #[tactic(auto, unfolding(js_reading::specs::Reading::left_out))]
-pub fn left_out(edge: Edge, tokens: &Tokens<'_>) -> bool
+pub fn left_out(tokens: &Tokens<'_>, edge: Edge) -> bool
     ensures { result ≡ spec.left_out (edge_of edge) tokens.now }
 {
     sees(tokens, Punctuator::CloseBrace)
@@ -49,14 +49,14 @@ pub fn left_out(edge: Edge, tokens: &Tokens<'_>) -> bool
 
 /// A semicolon, or none where it may be left out.
 #[tactic(auto, unfolding(js_reading::specs::Reading::semicolon))]
-pub fn semicolon(edge: Edge, tokens: &mut Tokens<'_>) -> Result<(), Halt>
+pub fn semicolon(tokens: &mut Tokens<'_>, edge: Edge) -> Result<(), Halt>
     ensures { Reads (λ _. tt) (spec.semicolon (edge_of edge) tokens.old) result tokens.new }
 {
     if sees(tokens, Punctuator::Semicolon) {
         tokens.advance();
         return Ok(());
     }
-    if left_out(edge, tokens) {
+    if left_out(tokens, edge) {
         return Ok(());
     }
     Err(Halt::Unread)
