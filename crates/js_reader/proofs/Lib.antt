@@ -1,2 +1,4 @@
 pub mod Punctuators
 pub mod Summing
+pub mod Converting
+pub mod Parting

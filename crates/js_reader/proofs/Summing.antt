@@ -1,6 +1,6 @@
 -- What the code keeps of a list is what there is to say of it.
-use Rattle.std.proofs.Common.{◌≡◌, ℕ, zero, suc, List, [], ◌∷◌, ◌++◌, length, Option, None, Some, Bool, true, false, ◌||◌, if◌then◌else◌, refl, sym, ap, subst, ◌∙◌, codes}
-use Rattle.js_term.specs.Term.{Text, Term, all}
+use Rattle.std.proofs.Common.{◌≡◌, ℕ, zero, suc, List, [], ◌∷◌, ◌++◌, length, None, Some, Bool, true, false, ◌||◌, if◌then◌else◌, refl, sym, ap, ◌∙◌, codes}
+use Rattle.js_term.specs.Term.{Text}
 use Rattle.js_term.specs.declared.kind.Kind.{Kind}
 use Rattle.js_syntax.specs.Parts.{is_node}
 use Rattle.js_tokens.specs.Next.{after}

@@ -1,3 +1,5 @@
 pub mod Reads
 pub mod Edges
 pub mod Summed
+pub mod Becomes
+pub mod Converted

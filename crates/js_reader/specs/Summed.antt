@@ -1,5 +1,5 @@
 -- Lists of what is found, as the code keeps them: the trees, and what holds of any or of the last.
-use Rattle.std.specs.Prelude.{ℕ, zero, suc, List, [], ◌∷◌, ◌++◌, map, length, Option, None, Some, Bool, true, false, ◌&&◌, ◌||◌, if◌then◌else◌, codes}
+use Rattle.std.specs.Prelude.{ℕ, zero, suc, List, [], ◌∷◌, ◌++◌, map, length, None, Some, Bool, true, false, ◌||◌, if◌then◌else◌, codes}
 use Rattle.js_term.specs.Term.{Text, Term}
 use Rattle.js_term.specs.declared.kind.Kind.{Kind}
 use Rattle.js_syntax.specs.Parts.{is_node}

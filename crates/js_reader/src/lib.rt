@@ -4,9 +4,12 @@
 mod edge;
 mod fault;
 mod found;
+mod taken;
+mod targets;
 mod tokens;
 
 pub use edge::Edge;
 pub use fault::Halt;
 pub use found::{Found, Listed, Listing};
+pub use targets::{to_target, to_target_element};
 pub use tokens::{binding, expect, expect_word, name, sees, sees_word};
