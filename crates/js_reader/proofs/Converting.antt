@@ -145,7 +145,7 @@ abbrev pub only_rest : Option Term → Items
 only_rest None = None
 only_rest (Some r) = Some ([], r)
 
-append_assoc : (xs : List Term) (t : Term) (ys : List Term) → xs ++ (t ∷ ys) ≡ (xs ++ t ∷ []) ++ ys
+pub append_assoc : (xs : List Term) (t : Term) (ys : List Term) → xs ++ (t ∷ ys) ≡ (xs ++ t ∷ []) ++ ys
 append_assoc [] t ys = refl
 append_assoc (x ∷ xs) t ys = ap (λ zs. x ∷ zs) (append_assoc xs t ys)
 
@@ -153,7 +153,7 @@ before_item : (xs : List Term) (t : Term) (r : Items) → before xs (with_item (
 before_item xs t None = refl
 before_item xs t (Some p) = ap (λ zs. Some (zs, p.1)) (append_assoc xs t p.0)
 
-append_nil : (xs : List Term) → xs ++ [] ≡ xs
+pub append_nil : (xs : List Term) → xs ++ [] ≡ xs
 append_nil [] = refl
 append_nil (x ∷ xs) = ap (λ zs. x ∷ zs) (append_nil xs)
 
@@ -280,12 +280,12 @@ rest_node l n h = ap (λ (t : Term). targets l (more t none)) (term_is n) ∙ re
 
 -- ---- how the loop over the items goes on
 
-use_map : (ks : List Node) (k : ℕ) (x : Node) → slice_get ks k ≡ Some x → slice_get (map term ks) k ≡ Some (term x)
+pub use_map : (ks : List Node) (k : ℕ) (x : Node) → slice_get ks k ≡ Some x → slice_get (map term ks) k ≡ Some (term x)
 use_map [] k x e = absurd (cc)
 use_map (n ∷ ks) zero x e = let same : n ≡ x = cc in ap (λ (m : Node). Some (term m)) same
 use_map (n ∷ ks) (suc k) x e = use_map ks k x e
 
-length_map : (ks : List Node) → length (map term ks) ≡ length ks
+pub length_map : (ks : List Node) → length (map term ks) ≡ length ks
 length_map [] = refl
 length_map (n ∷ ks) = ap suc (length_map ks)
 
@@ -357,3 +357,14 @@ same_there [] ys k e h = absurd (missing ys k h (sym e))
 same_there (x ∷ xs) [] k e h = absurd (omega arith)
 same_there (x ∷ xs) (y ∷ ys) zero e h = omega arith
 same_there (x ∷ xs) (y ∷ ys) (suc k) e h = let below = same_there xs ys k e (omega arith) in omega arith
+
+pub drop_there : (ts : List Term) (k : ℕ) (x : Term) → slice_get ts k ≡ Some x → drop k ts ≡ x ∷ drop (suc k) ts
+drop_there [] k x e = absurd (cc)
+drop_there (t ∷ ts) zero x e = let same : t ≡ x = cc in ap (λ (y : Term). y ∷ ts) same
+drop_there (t ∷ ts) (suc k) x e = drop_there ts k x e
+
+pub drop_end : (ts : List Term) (k : ℕ) → k ≡ length ts → drop k ts ≡ []
+drop_end [] zero h = refl
+drop_end [] (suc j) h = absurd (omega arith)
+drop_end (u ∷ us) zero h = absurd (omega arith)
+drop_end (u ∷ us) (suc j) h = drop_end us j (omega arith)

@@ -2,3 +2,4 @@ pub mod Punctuators
 pub mod Summing
 pub mod Converting
 pub mod Parting
+pub mod Binds

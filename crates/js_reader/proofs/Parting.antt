@@ -5,6 +5,7 @@ use Rattle.js_tree.specs.Parts.{kids, top, with_kid}
 use Rattle.js_tree.specs.declared.node.Node.{Node, size-Node}
 use Rattle.js_tree.proofs.PartLaws.{kid_is_smaller, kids_with, later_kids}
 use Rattle.js_reader.specs.Becomes.{sole, both}
+use Rattle.js_reader.specs.Bound.{listed_both}
 use Rattle.js_reader.specs.Converted.{is_list, list_in}
 
 length_set : {A : Type 0} (xs : List A) (k : ℕ) (a : A) → length (slice_set xs k a) ≡ length xs
@@ -29,6 +30,10 @@ one_of : {A : Type 0} (xs : List A) (a : A) → sole xs ≡ Some a → slice_get
 one_of [] a e = absurd (cc)
 one_of (x ∷ []) a e = e
 one_of (x ∷ y ∷ xs) a e = absurd (cc)
+
+abbrev firsts : {A : Type 0} → Option (A × A) → Option A
+firsts None = None
+firsts (Some p) = Some p.0
 
 abbrev seconds : {A : Type 0} → Option (A × A) → Option A
 seconds None = None
@@ -56,3 +61,20 @@ list_of (Some l) a e = go (is_list (top l).form) e
 
 pub list_smaller : (n a : Node) → list_in (sole (kids n)) ≡ Some a → size-Node a < size-Node n
 list_smaller n a e = sole_smaller n a (list_of (sole (kids n)) a e)
+
+first_of : {A : Type 0} (xs : List A) (a b : A) → both xs ≡ Some (a, b) → slice_get xs 0 ≡ Some a
+first_of [] a b e = absurd (cc)
+first_of (x ∷ []) a b e = absurd (cc)
+first_of (x ∷ y ∷ []) a b e = ap firsts e
+first_of (x ∷ y ∷ z ∷ xs) a b e = absurd (cc)
+
+pub first_smaller : (n a b : Node) → both (kids n) ≡ Some (a, b) → size-Node a < size-Node n
+first_smaller n a b e = kid_is_smaller n 0 a (first_of (kids n) a b e)
+
+pub listed_of : (o : Option (Node × Node)) (p : Node × Node) → listed_both o ≡ Some p → o ≡ Some p
+listed_of None p e = absurd (cc)
+listed_of (Some q) p e = go (is_list (top q.0).form) e
+  where
+    go : (b : Bool) → (if b then Some q else None) ≡ Some p → Some q ≡ Some p
+    go true h = h
+    go false h = absurd (cc)

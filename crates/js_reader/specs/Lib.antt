@@ -3,3 +3,4 @@ pub mod Edges
 pub mod Summed
 pub mod Becomes
 pub mod Converted
+pub mod Bound

@@ -4,6 +4,7 @@
 mod edge;
 mod fault;
 mod found;
+mod patterns;
 mod taken;
 mod targets;
 mod tokens;
@@ -11,5 +12,6 @@ mod tokens;
 pub use edge::Edge;
 pub use fault::Halt;
 pub use found::{Found, Listed, Listing};
+pub use patterns::to_pattern;
 pub use targets::{to_target, to_target_element};
 pub use tokens::{binding, expect, expect_word, name, sees, sees_word};
