@@ -3,3 +3,4 @@ pub mod Summing
 pub mod Converting
 pub mod Parting
 pub mod Binds
+pub mod Formed

@@ -4,3 +4,4 @@ pub mod Summed
 pub mod Becomes
 pub mod Converted
 pub mod Bound
+pub mod Parameters

@@ -4,6 +4,7 @@
 mod edge;
 mod fault;
 mod found;
+mod parameters;
 mod patterns;
 mod taken;
 mod targets;
@@ -12,6 +13,7 @@ mod tokens;
 pub use edge::Edge;
 pub use fault::Halt;
 pub use found::{Found, Listed, Listing};
-pub use patterns::to_pattern;
+pub use parameters::{to_parameter, to_rest_parameter};
+pub use patterns::{to_pattern, to_pattern_element};
 pub use targets::{to_target, to_target_element};
 pub use tokens::{binding, expect, expect_word, name, sees, sees_word};

@@ -1,10 +1,10 @@
 //! What was read as an assignment target, as a binding pattern (ECMAScript 14.3.3).
 
-ghost use Rattle.std.specs.Prelude.{◌≡◌, false, map};
+ghost use Rattle.std.specs.Prelude.{◌≡◌, false, map, true};
 ghost use Rattle.js_tree.specs.Parts.{kids, top};
 ghost use Rattle.js_tree.specs.TermOf.{term};
 ghost use Rattle.js_tree.specs.Words.{texts_seen};
-ghost use Rattle.js_reading.specs.Targets.{pattern_of};
+ghost use Rattle.js_reading.specs.Targets.{pattern_of, pattern_rest};
 ghost use Rattle.js_reader.specs.Becomes.{Becomes, both};
 ghost use Rattle.js_reader.specs.Bound as bound;
 
@@ -252,4 +252,18 @@ pub fn to_pattern(alloc: Global, node: Node) -> Result<Node, Halt>
     ensures { Becomes term (pattern_of false (term node)) result }
 {
     bind(alloc, Binding::Pattern, node)
+}
+
+/// The pattern, pattern with a default, or hole that was read as an element of a target.
+pub fn to_pattern_element(alloc: Global, node: Node) -> Result<Node, Halt>
+    ensures { Becomes term (pattern_of true (term node)) result }
+{
+    bind(alloc, Binding::Element, node)
+}
+
+/// The rest of an array's pattern that was read as that of a target; nothing stays nothing.
+pub(crate) fn to_pattern_rest(alloc: Global, node: Node) -> Result<Node, Halt>
+    ensures { Becomes term (pattern_rest (term node)) result }
+{
+    bind(alloc, Binding::ArrayRest, node)
 }
