@@ -1,0 +1,4 @@
+pub mod Converting
+pub mod Parting
+pub mod Binds
+pub mod Formed

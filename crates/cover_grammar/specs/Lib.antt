@@ -1,0 +1,4 @@
+pub mod Becomes
+pub mod Converted
+pub mod Bound
+pub mod Parameters
