@@ -1,13 +1,12 @@
-mod LevelLaws
-mod Prefixes
-mod Places
-mod Smaller
 mod Braces
 mod Characters
 mod Clauses
-mod FlagWords
 mod Holes
 mod Kids
+mod LevelLaws
 mod Parts
+mod Places
+mod Prefixes
+mod Smaller
 mod Steps
 mod Twice

@@ -1,4 +1,4 @@
-pub mod Links
-pub mod Openings
 pub mod Pieces
 pub mod Printed
+pub mod Links
+pub mod Openings

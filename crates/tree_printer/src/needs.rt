@@ -5,7 +5,7 @@ ghost use Rattle.js_syntax.specs.Edges.{has_kind, is_string_kind};
 ghost use Rattle.js_term.specs.Term.{none};
 ghost use Rattle.js_tree.specs.TermOf.{term};
 ghost use Rattle.js_tree.specs.Words.{texts_seen};
-ghost use Rattle.print_layout.specs.Needs.{front_needs, inside, is_fronted, is_in, is_misread, is_number_kind, needs};
+ghost use Rattle.print_layout.specs.Needs.{front_needs, inside, is_fronted, is_held, is_in, is_misread, is_number_kind, needs};
 
 use crate::leads::{Opening, leads};
 use crate::least::{first_least, least};
@@ -126,4 +126,11 @@ pub fn is_in(kind: Kind, texts: &Texts) -> bool
         Kind::PrivateInExpression => true,
         _ => false,
     }
+}
+
+/// Whether parentheses stand round a node, by whether its place asks for them and whether a bare `in` may stand there.
+pub fn is_held(i: bool, is_needed: bool, kind: Kind, texts: &Texts) -> bool
+    ensures { result ≡ is_held i (λ t. is_needed) kind (texts_seen texts.now) none }
+{
+    is_needed || (!i && is_in(kind, texts))
 }

@@ -9,7 +9,8 @@ ghost use Rattle.js_tree.specs.Words.{flags_word, texts_seen, word_text};
 use bitflags::Flags;
 use js_tree::{RegExpFlags, Texts, Word};
 
-fn is_set(word: Word) -> bool
+/// Whether it is a flag that is set, or another word.
+pub fn is_set(word: Word) -> bool
     ensures { result ≡ is_set (word_text word) }
 {
     !matches!(word, Word::Unset)
@@ -17,7 +18,7 @@ fn is_set(word: Word) -> bool
 
 /// Whether any flag is set.
 #[tactic(auto, using(crate::proofs::Prefixes::set_flags))]
-fn are_set(flags: RegExpFlags) -> bool
+pub fn are_set(flags: RegExpFlags) -> bool
     ensures { result ≡ is_set (flags_word flags) }
 {
     flags.contains(RegExpFlags::D)

@@ -8,7 +8,7 @@ ghost use Rattle.std.specs.Prelude.{◌≡◌, ◌++◌, ◌&&◌, ◌||◌, not
 ghost use Rattle.tree_printer.specs.Pieces.{pieces_of, said};
 ghost use Rattle.tree_printer.specs.Printed.{item_text, parts, shown};
 
-use crate::needs::{inside, is_in, needs};
+use crate::needs::{inside, is_held, needs};
 use crate::piece::{Piece, heads, listed, past};
 use crate::rows::row_as;
 use crate::strings::{print_flags, print_hashbang, print_string, push_if};
@@ -181,7 +181,7 @@ fn is_method_part(kind: Kind, texts: &Texts, k: usize) -> bool
 fn is_parenthesized(method: bool, i: bool, held: bool, kind: Kind, texts: &Texts) -> bool
     ensures { result ≡ (not method && (held || (not i && is_in kind (texts_seen texts.now)))) }
 {
-    !method && (held || (!i && is_in(kind, texts)))
+    !method && is_held(i, held, kind, texts)
 }
 
 /// Whether a bare `in` may stand in a node.
