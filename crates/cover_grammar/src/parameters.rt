@@ -8,9 +8,9 @@ ghost use Rattle.js_reading.specs.Targets.{parameter_as, parameter_rest, pattern
 ghost use Rattle.cover_grammar.specs.Becomes.{Becomes};
 ghost use Rattle.cover_grammar.specs.Parameters.{parameter_bound};
 
-use js_reader::Halt;
 use crate::patterns::{to_pattern_element, to_pattern_rest};
 use crate::taken::into_both;
+use js_reader::Halt;
 use js_term::is_kind;
 use js_tree::{Form, Kind, Node, Texts};
 use std::alloc::Global;

@@ -8,9 +8,9 @@ ghost use Rattle.js_reading.specs.Targets.{pattern_of, pattern_rest};
 ghost use Rattle.cover_grammar.specs.Becomes.{Becomes, both};
 ghost use Rattle.cover_grammar.specs.Bound as bound;
 
-use js_reader::Halt;
 use crate::taken::{into_both, into_sole};
 use js_items as lists;
+use js_reader::Halt;
 use js_tree::{Form, Kind, Node, Texts};
 use std::alloc::Global;
 

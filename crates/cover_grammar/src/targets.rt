@@ -11,9 +11,9 @@ ghost use Rattle.js_syntax.specs.Sorts as sorts;
 ghost use Rattle.cover_grammar.specs.Becomes.{Becomes, sole, both};
 ghost use Rattle.cover_grammar.specs.Converted as converted;
 
-use js_reader::Halt;
 use crate::taken::{into_both, into_list, into_sole};
 use js_items::Items;
+use js_reader::Halt;
 use js_term::is_kind;
 use js_tree::{Form, Kind, Node, Texts};
 use std::alloc::Global;

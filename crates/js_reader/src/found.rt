@@ -6,8 +6,8 @@ ghost use Rattle.js_reader.specs.Reads.{found_of};
 ghost use Rattle.js_reader.specs.Summed.{added, listing_of, nothing_yet};
 ghost use Rattle.js_tree.specs.TermOf.{term};
 
-use js_items::Items;
 use crate::nodes::is_node;
+use js_items::Items;
 use js_term::Kind;
 use js_tree::Node;
 use std::alloc::{AllocError, Global};
